@@ -13,9 +13,9 @@ use Rattle.definitions.specs.Slots.{in_globals, names_only}
 use Rattle.definitions.specs.Tables.{Emit, block_body, begin, function}
 use Rattle.definitions.specs.Lower.{compile, main, no_tables}
 use Rattle.definitions.specs.Wellformed.{ask_block, block_questions}
-use Rattle.parts.specs.Places.{Node, CountThere, count_at}
-use Rattle.tree.specs.StmtAt.{block_at, stmts_at, TreeAt}
-use Rattle.tree.proofs.StmtViews.{view-block}
+use Rattle.tree_view.specs.Places.{Node, CountThere, count_at}
+use Rattle.tree_view.specs.StmtAt.{block_at, stmts_at, TreeAt}
+use Rattle.tree_view.proofs.StmtViews.{view-block}
 use Rattle.state.specs.State.{State, state_of, emit_at, symbol_number, WithinLimits, Sound, Left}
 use Rattle.state.specs.Steps.{begun, function_ended}
 use Rattle.state.specs.declared.Counts.{Counts}

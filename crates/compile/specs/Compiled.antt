@@ -5,7 +5,7 @@ use Rattle.definitions.specs.Instruction.{Return}
 use Rattle.definitions.specs.Slots.{in_globals, names_only}
 use Rattle.definitions.specs.Tables.{Tables, Emit, one, ◌⨟◌}
 use Rattle.definitions.specs.Lower.{emit_block, main, no_tables}
-use Rattle.tree.specs.StmtAt.{block_at, stmts_at}
+use Rattle.tree_view.specs.StmtAt.{block_at, stmts_at}
 use Rattle.state.specs.State.{State, tables_of, with_tables, symbol_number, with_symbol, WithinLimits}
 use Rattle.state.specs.Steps.{begun}
 use Rattle.state.specs.declared.Counts.{Counts}

@@ -4,7 +4,7 @@
 #![tactic(auto)]
 
 ghost use Rattle.definitions.specs.Lower as Lower;
-ghost use Rattle.tree.specs.StmtAt.{block_at, stmts_at, TreeAt};
+ghost use Rattle.tree_view.specs.StmtAt.{block_at, stmts_at, TreeAt};
 ghost use Rattle.lower_emit.specs.Emitting.{SoundIn, EmitsTo, BeginsIn};
 ghost use Rattle.compile.specs.Compiled.{Fresh, tree_block, main_code, main_begun, StretchIn, stretch_block, CompilesTree};
 
@@ -15,8 +15,8 @@ use names::Made;
 use numerals::ops::RETURN;
 use numerals::places::{IN_GLOBALS, SLOTS_FROM};
 use numerals::sizes::{DEPTH, HEAD, TOP};
-use parts::numbers::u16_at;
 use state::Scope;
+use tree_view::numbers::u16_at;
 use write_stmts::write_body;
 
 // How jumps get their numbers: they are set once the part that they pass is done, or written as they stay, by its measure.

@@ -33,8 +33,8 @@ use Rattle.questions.specs.declared.Question.{Question}
 use Rattle.questions.specs.declared.Question.TheVariants.{WorkAreas, Limits as Limits15, CutRoom}
 use Rattle.questions.specs.Numbers.{number}
 use Rattle.questions.proofs.Named.{number-same}
-use Rattle.parts.specs.Places.{Node}
-use Rattle.tree.specs.StmtAt.{StmtsRead}
+use Rattle.tree_view.specs.Places.{Node}
+use Rattle.tree_view.specs.StmtAt.{StmtsRead}
 use Rattle.tree.proofs.TreeViews.{ReadAt, view-read, view-tree}
 use Rattle.state.specs.State.{limits_of}
 use Rattle.state.specs.declared.Limits.{Limits}

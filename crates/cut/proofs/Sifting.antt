@@ -23,9 +23,9 @@ use Rattle.questions.specs.declared.Question.{Question}
 use Rattle.questions.specs.declared.Question.TheVariants.{Slots}
 use Rattle.questions.specs.Numbers.{number}
 use Rattle.questions.proofs.Named.{number-same}
-use Rattle.parts.specs.Places.{count_at}
+use Rattle.tree_view.specs.Places.{count_at}
 use Rattle.tree.specs.Settled.{FirstNo}
-use Rattle.tree.specs.StmtAt.{stmt_at, BlockReads}
+use Rattle.tree_view.specs.StmtAt.{stmt_at, BlockReads}
 use Rattle.compile.specs.Compiled.{tree_block}
 use Rattle.cut.specs.Tops.{TopAt, is_no, alone}
 use Rattle.cut.proofs.Stretches.{skip-next, top-start, top-stmt, top-next, top-end}

@@ -12,12 +12,12 @@ use Rattle.definitions.specs.Wellformed.{ask_block}
 use Rattle.definitions.specs.TreeBytes.{size}
 use Rattle.definitions.specs.Cut.{skip, front, stretch_of}
 use Rattle.definitions.proofs.CutSingle.{ask-stretch}
-use Rattle.parts.specs.Places.{Node, count_at, CountThere}
-use Rattle.parts.proofs.Laws.{follow, bind_is}
-use Rattle.parts.proofs.Nodes.{got-node, got-reads, node-got}
-use Rattle.tree.specs.StmtAt.{stmt_at, stmts_at, StmtReads, StmtsRead, BlockReads, TreeAt, cons_at}
-use Rattle.tree.proofs.StmtLaws.{steady-S}
-use Rattle.tree.proofs.StmtViews.{stmts-size, view-block, view-stmts-none, view-stmts-more}
+use Rattle.tree_view.specs.Places.{Node, count_at, CountThere}
+use Rattle.tree_view.proofs.Laws.{follow, bind_is}
+use Rattle.tree_view.proofs.Nodes.{got-node, got-reads, node-got}
+use Rattle.tree_view.specs.StmtAt.{stmt_at, stmts_at, StmtReads, StmtsRead, BlockReads, TreeAt, cons_at}
+use Rattle.tree_view.proofs.StmtLaws.{steady-S}
+use Rattle.tree_view.proofs.StmtViews.{stmts-size, view-block, view-stmts-none, view-stmts-more}
 use Rattle.compile.specs.Compiled.{tree_block, StretchIn}
 use Rattle.compile.proofs.Compiling.{relied}
 use Rattle.cut.specs.Tops.{TopAt}
@@ -128,6 +128,20 @@ module _ {t : List ℕ} {b : Block} {i p : ℕ} (T : TopAt t b i p) where
     pub stretch-value : (stmts_at 32 m t p).value ≡ stretch_of i m b
     unfolding stretch_of
     stretch-value = (front-stmts 32 m (count_at t 5 - i) t p (omega arith) T.reads).value ∙ ap (front m) T.value
+
+-- m further
+pub top-later : {t : List ℕ} {b : Block} (m : ℕ) {i p : ℕ} → TopAt t b i p → i + m ≤ count_at t 5 → TopAt t b (i + m) (stmts_at 32 m t p).end
+unfolding cons_at
+top-later {t} {b} zero {i} {p} T h =
+    let e : i ≡ i + 0 = omega arith in
+    let z = ap (λ (x : Node Block). x.end) (view-stmts-none 32 0 t p (omega arith) T.reads.start) in
+    subst (TopAt t b (i + 0)) (sym z) (subst (λ (k : ℕ). TopAt t b k p) e T)
+top-later {t} {b} (suc m) {i} {p} T h =
+    let v = view-stmts-more 32 (suc m) t p (omega arith) (stretch-reads T (suc m) h) in
+    let e : suc i + m ≡ i + suc m = omega arith in
+    let z : suc m - 1 ≡ m = omega arith in
+    let f : (stmts_at 32 (suc m) t p).end ≡ (stmts_at 32 m t (stmt_at 32 t p).end).end = ap (λ (x : Node Block). x.end) v.is ∙ ap (λ (k : ℕ). (stmts_at 32 k t (stmt_at 32 t p).end).end) z in
+    subst (TopAt t b (i + suc m)) (sym f) (subst (λ (k : ℕ). TopAt t b k (stmts_at 32 m t (stmt_at 32 t p).end).end) e (top-later m (top-next T (omega arith)) (omega arith)))
 
 -- it can be lowered
 pub stretch-in : {t : List ℕ} {i p : ℕ} → TreeAt t → TopAt t (tree_block t) i p → (m : ℕ) → i + m ≤ count_at t 5 → StretchIn t (record { at = p; count = m })

@@ -13,17 +13,17 @@ use Rattle.definitions.specs.TreeBytes.{size, stmts_bytes, block_bytes, tree_byt
 use Rattle.definitions.proofs.BytesWritten.{length-be}
 use Rattle.definitions.proofs.Taken.{length-housed, length-block}
 use Rattle.definitions.proofs.TreeStmts.{block-is, writes-stmt, writes-stmts}
-use Rattle.parts.specs.Places.{Node}
-use Rattle.parts.proofs.Laws.{steady-counted}
-use Rattle.parts.proofs.Nodes.{node-within}
-use Rattle.tree.specs.StmtAt.{stmt_at, stmts_at, StmtReads, StmtsRead}
-use Rattle.tree.proofs.StmtLaws.{steady-S}
-use Rattle.tree.proofs.StmtViews.{view-stmts-none, view-stmts-more}
-use Rattle.tree.specs.StmtAt.{cons_at}
+use Rattle.tree_view.specs.Places.{Node}
+use Rattle.tree_view.proofs.Laws.{steady-counted}
+use Rattle.tree_view.proofs.Nodes.{node-within}
+use Rattle.tree_view.specs.StmtAt.{stmt_at, stmts_at, StmtReads, StmtsRead}
+use Rattle.tree_view.proofs.StmtLaws.{steady-S}
+use Rattle.tree_view.proofs.StmtViews.{view-stmts-none, view-stmts-more}
+use Rattle.tree_view.specs.StmtAt.{cons_at}
 use Rattle.rests.specs.Taking.{span}
 use Rattle.rests.proofs.Spans.{node-after, node-fact}
 use Rattle.writing.proofs.Begun.{joined}
-use Rattle.tree.proofs.StmtViews.{stmts-size}
+use Rattle.tree_view.proofs.StmtViews.{stmts-size}
 
 -- ---- where it ends
 

@@ -5,8 +5,8 @@ use Rattle.definitions.specs.Tree.{Stmt, Block}
 use Rattle.definitions.specs.Wellformed.{ask_stmt, block_questions, first_no}
 use Rattle.definitions.specs.Fits.{fits_stmt}
 use Rattle.definitions.specs.Cut.{skip, stretch_of}
-use Rattle.parts.specs.Places.{count_at}
-use Rattle.tree.specs.StmtAt.{stmts_at, StmtsRead}
+use Rattle.tree_view.specs.Places.{count_at}
+use Rattle.tree_view.specs.StmtAt.{stmts_at, StmtsRead}
 use Rattle.compile.specs.Compiled.{tree_block}
 use Rattle.compile.specs.declared.Stretch.{Stretch}
 

@@ -2,16 +2,16 @@
 ghost use Rattle.std.specs.Prelude.{◌≡◌, ◌≤◌, length};
 ghost use Rattle.definitions.specs.Cut.{failing};
 ghost use Rattle.questions.specs.Numbers.{number};
-ghost use Rattle.tree.specs.StmtAt.{stmt_at, StmtReads, BlockReads};
+ghost use Rattle.tree_view.specs.StmtAt.{stmt_at, StmtReads, BlockReads};
 ghost use Rattle.compile.specs.Compiled.{tree_block};
 ghost use Rattle.cut.specs.Tops.{TopAt, alone};
 
 use fits::statements::check_top_slots;
 use numerals::sizes::{DEPTH, HEAD, TOP};
-use parts::numbers::u16_at;
 use questions::Question;
 use slots::skip::skip_stmt;
 use tree::check_top;
+use tree_view::numbers::u16_at;
 
 // Whether the top statement at `at` by itself is not refused by the question first.
 fn passes(tree: &[u8], at: usize, question: Question) -> bool

@@ -2,6 +2,7 @@
 // head, a count and a part of the tree; nothing else of it is copied.
 #![tactic(auto)]
 
+mod begin; // begin.rt: where the search for the shortest stretch begins
 mod failing; // failing.rt: the first statement that fails a question
 mod shortest; // shortest.rt: the shortest stretch that is over the limits
 mod write; // write.rt: the tree of a stretch
@@ -23,6 +24,7 @@ use numerals::sizes::AREA;
 use questions::Question;
 use settle::accept;
 use shortest::shortest;
+use state::Limits as LimitNumbers;
 use write::write_stretch;
 
 // 38, then 2 to 6; a tree refused by another question is cut down. The areas keep what was worked out.
@@ -30,7 +32,7 @@ fn cut_in(
     tree: &[u8],
     code: &mut [u32],
     tables: &mut [u32],
-    limits: state::Limits,
+    limits: LimitNumbers,
     out: &mut [u8],
 ) -> Result<Option<usize>, Question>
     requires { (16384 ≤ length code.old) × (16384 ≤ length tables.old) × Limited limits × (tables_fit (limits_of limits) (compile []ᵇ).tables ≡ true) }

@@ -3,21 +3,28 @@
 ghost use Rattle.std.specs.Prelude.{◌≡◌, ◌≤◌, ◌<◌, ◌+◌, ◌-◌, suc, not, true, length};
 ghost use Rattle.definitions.specs.Lower.{compile};
 ghost use Rattle.definitions.specs.Module.{slots_fit, tables_fit};
-ghost use Rattle.parts.specs.Places.{count_at};
+ghost use Rattle.tree_view.specs.Places.{count_at};
 ghost use Rattle.state.specs.State.{limits_of, Limited};
 ghost use Rattle.compile.specs.Compiled.{tree_block, StretchIn, stretch_block};
 ghost use Rattle.cut.specs.Tops.{TopAt};
 ghost use Rattle.cut.specs.Seeking.{Large, Best, Least};
 
+use crate::begin::first_over;
 use compile::{Stretch, compile_stretch};
 use lower_emit::emitter::Emitter;
-use numerals::sizes::{DEPTH, HEAD, MADE_ROOM, TOP};
-use parts::numbers::u16_at;
+use numerals::sizes::{DEPTH, HEAD, MADE_ROOM};
 use slots::skip::skip_stmt;
 use state::Limits;
+use tree_view::numbers::u16_at;
 
 // Whether a stretch is over the limits.
-fn over(tree: &[u8], stretch: Stretch, code: &mut [u32], tables: &mut [u32], limits: Limits) -> bool
+pub(crate) fn over(
+    tree: &[u8],
+    stretch: Stretch,
+    code: &mut [u32],
+    tables: &mut [u32],
+    limits: Limits,
+) -> bool
     requires { (16384 ≤ length code.old) × (16384 ≤ length tables.old) × Limited limits × StretchIn tree.now stretch × (slots_fit (compile (stretch_block tree.now stretch)).tables ≡ true) }
     ensures { result ≡ not (tables_fit (limits_of limits) (compile (stretch_block tree.now stretch)).tables) }
 {
@@ -75,9 +82,9 @@ pub(crate) fn shortest(tree: &[u8], code: &mut [u32], tables: &mut [u32], limits
     ensures { Least (limits_of limits) tree.now result }
 {
     let count = u16_at(tree, HEAD);
-    let mut at = TOP;
-    let mut best = Stretch { at, count };
-    for i in 0..count {
+    let (first, mut best) = first_over(tree, code, tables, limits);
+    let mut at = best.at;
+    for i in first..count {
         let left = Stretch {
             at,
             count: count - i,

@@ -1,7 +1,7 @@
 // The tree of a stretch of a tree's top statements: a head, their count, and their bytes.
 ghost use Rattle.std.specs.Prelude.{◌≡◌, ◌≤◌, length};
 ghost use Rattle.definitions.specs.TreeBytes.{tree_bytes};
-ghost use Rattle.tree.specs.StmtAt.{stmts_at, StmtsRead};
+ghost use Rattle.tree_view.specs.StmtAt.{stmts_at, StmtsRead};
 ghost use Rattle.writing.specs.Wrote.{Wrote};
 ghost use Rattle.compile.specs.Compiled.{stretch_block};
 
@@ -12,7 +12,7 @@ use writing::numbers::{write_head, write_number};
 use writing::write_bytes;
 
 // Where a stretch ends.
-fn stretch_end(tree: &[u8], stretch: Stretch) -> usize
+pub(crate) fn stretch_end(tree: &[u8], stretch: Stretch) -> usize
     requires { StmtsRead 32 stretch.count tree.now stretch.at }
     ensures { result ≡ (stmts_at 32 stretch.count tree.now stretch.at).end }
 {

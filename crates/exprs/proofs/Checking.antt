@@ -13,15 +13,15 @@ use Rattle.questions.specs.declared.Question.{Question}
 use Rattle.questions.specs.declared.Question.TheVariants.{TreeLayout, Depth}
 use Rattle.questions.specs.Numbers.{number}
 use Rattle.definitions.specs.Bytes.{field}
-use Rattle.parts.specs.Judge.{Passed, judged, unasked, suited, judge_expr, inner, judge_many, judge_display}
+use Rattle.tree_view.specs.Judge.{Passed, judged, unasked, suited, judge_expr, inner, judge_many, judge_display}
 use Rattle.parts.specs.Asked.{stand}
 use Rattle.parts.specs.Judged.{passed_by, Judged, ReadsByte, StandChanged}
 use Rattle.parts.specs.declared.asked.BlockQuestion.{BlockQuestion}
 use Rattle.parts.specs.declared.checker.Checker.{Checker}
-use Rattle.parts.specs.declared.roles.Role.{Role}
+use Rattle.tree_view.specs.declared.roles.Role.{Role}
 use Rattle.parts.proofs.Steps.{Turns, Along, done}
 use Rattle.exprs.specs.Constants.{Skipped}
-use Rattle.exprs.proofs.ExprLaws.{expr-none, expr-end, expr-unknown, many-none, many_more, at_none, at-false, at_true, at-int, at-float, at-list, at_set, at-tree-set}
+use Rattle.tree_view.proofs.ExprLaws.{expr-none, expr-end, expr-unknown, many-none, many_more, at_none, at-false, at_true, at-int, at-float, at-list, at_set, at-tree-set}
 
 pub expr-stop : (r : Role) (d : ℕ) {q : Question} {o : Result (Unit {0}) Question} {c c₁ : Checker} → o ≡ Err q → ReadsByte (Err q) c c₁ → Judged o c c₁ (judge_expr r d)
 unfolding passed_by number ReadsByte

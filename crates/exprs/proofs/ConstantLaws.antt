@@ -4,16 +4,16 @@ use mathlib.Core.Path.{◌≡◌, refl, sym, ◌∙◌}
 use mathlib.Core.List.{List}
 use native.Mathlib.Omega.{arith}
 use lib.ListN.{length, get_or}
-use Rattle.parts.specs.Judge.{suited, judge_expr, judge_many}
-use Rattle.parts.specs.Judge.{Next}
-use Rattle.parts.specs.declared.roles.Role.{Role}
-use Rattle.parts.specs.declared.roles.Role.TheVariants.{Value}
-use Rattle.parts.proofs.Laws.{then_next}
-use Rattle.parts.proofs.LeafLaws.{suits-value}
+use Rattle.tree_view.specs.Judge.{suited, judge_expr, judge_many}
+use Rattle.tree_view.specs.Judge.{Next}
+use Rattle.tree_view.specs.declared.roles.Role.{Role}
+use Rattle.tree_view.specs.declared.roles.Role.TheVariants.{Value}
+use Rattle.tree_view.proofs.Laws.{then_next}
+use Rattle.tree_view.proofs.LeafLaws.{suits-value}
 use Rattle.parts.specs.Judged.{SkipsBelow}
 use Rattle.parts.specs.declared.checker.Checker.{Checker}
 use Rattle.exprs.specs.Constants.{PassesOver, Skipped}
-use Rattle.exprs.proofs.ExprLaws.{at_none, at-false, at_true, many_more}
+use Rattle.tree_view.proofs.ExprLaws.{at_none, at-false, at_true, many_more}
 
 -- a constant as a value: one byte, of which nothing is asked
 pub constant-value : (d : ℕ) (t : List ℕ) (p w : ℕ) → (d ≡ 0 → ⊥) → p < length t → get_or t p 0 < 3 → Next (p + 1) w ≡ judge_expr Value d t p w

@@ -17,15 +17,15 @@ use Rattle.definitions.specs.Tree.{none_l, int_l, float_l, string_l, Expr, lit}
 use Rattle.numerals.specs.Kinds.{expr_byte}
 use Rattle.numerals.specs.declared.kinds.ExprKind.{ExprKind}
 use Rattle.numerals.specs.declared.kinds.ExprKind.TheVariants.{Int as IntKind, Float as FloatKind}
-use Rattle.parts.specs.Places.{Node, node_of, node_at, is_got, count_at, CountThere, eight_at, text_node_at}
-use Rattle.parts.proofs.Laws.{at_byte, kind-of}
-use Rattle.parts.proofs.Nodes.{Seen, got-node}
-use Rattle.exprs.specs.ExprAt.{expr_at, ExprReads, int_at, float_at, string_at}
+use Rattle.tree_view.specs.Places.{Node, node_of, node_at, is_got, count_at, CountThere, eight_at, text_node_at}
+use Rattle.tree_view.proofs.Laws.{at_byte, kind-of}
+use Rattle.tree_view.proofs.Nodes.{Seen, got-node}
+use Rattle.tree_view.specs.ExprAt.{expr_at, ExprReads, int_at, float_at, string_at}
 use Rattle.exprs.specs.Literals.{literal_of, kind_byte, PlainLiteral, TextPlace, bits_of, LiteralAt, LiteralStands}
 use Rattle.exprs.specs.declared.literals.Literal.{Literal}
 use Rattle.exprs.specs.declared.literals.Literal.TheVariants.{None, Bool as Truth, Int, Float, Nan, Text}
-use Rattle.exprs.proofs.ExprLaws.{deep-E}
-use Rattle.exprs.proofs.ExprViews.{expr-deep, expr-inside, view-none, view-false, view-true, view-int, view-float, view-string}
+use Rattle.tree_view.proofs.ExprLaws.{deep-E}
+use Rattle.tree_view.proofs.ExprViews.{expr-deep, expr-inside, view-none, view-false, view-true, view-int, view-float, view-string}
 
 -- ---- a number of eight bytes, two at a time
 

@@ -1,8 +1,8 @@
 -- Constants in a list of expressions: None, False and True, whose kind bytes are 0, 1 and 2.
 use Rattle.std.specs.Prelude.{ℕ, ◌+◌, ◌-◌, ◌≤◌, ◌≡◌, List, length}
-use Rattle.parts.specs.Judge.{judge_many}
+use Rattle.tree_view.specs.Judge.{judge_many}
 use Rattle.parts.specs.declared.checker.Checker.{Checker}
-use Rattle.parts.specs.declared.roles.Role.{Role}
+use Rattle.tree_view.specs.declared.roles.Role.{Role}
 
 -- k of the n expressions from p on can be passed over: the n are judged as the n - k that follow them
 pub record PassesOver (r : Role) (d : ℕ) (t : List ℕ) (n p k : ℕ) : Type 0 where

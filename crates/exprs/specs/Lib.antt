@@ -1,3 +1,2 @@
-pub mod ExprAt
 pub mod Literals
 pub mod Constants

@@ -6,8 +6,8 @@ use Rattle.std.specs.Int.{w64}
 use Rattle.std.proofs.Common.{of_z}
 use Rattle.definitions.specs.Tree
 use Rattle.definitions.specs.Tree.{none_l, bool_l, int_l, float_l, string_l}
-use Rattle.parts.specs.Places.{count_at}
-use Rattle.exprs.specs.ExprAt.{ExprReads}
+use Rattle.tree_view.specs.Places.{count_at}
+use Rattle.tree_view.specs.ExprAt.{ExprReads}
 use Rattle.exprs.specs.declared.literals.Literal.{Literal}
 use Rattle.exprs.specs.declared.literals.Literal.TheVariants.{None, Bool as Truth, Int, Float, Nan, Text}
 

@@ -3,7 +3,7 @@ ghost use Rattle.exprs.specs.Constants.{Skipped};
 
 use numerals::kinds::ExprKind;
 use parts::checker::Checker;
-use parts::roles::Role;
+use tree_view::roles::Role;
 
 // Passes over the constants that come next of n expressions, where they may stand there; how many these are.
 pub(crate) fn skip_constants(c: &mut Checker<'_>, depth: u32, role: Role, n: usize) -> usize

@@ -2,12 +2,12 @@
 ghost use Rattle.std.specs.Prelude.{◌≡◌, List, ℕ, ◌+◌, ◌≤◌, ◌<◌, length, MatchOption};
 ghost use Rattle.definitions.specs.Tree.{int_l, float_l, lit};
 ghost use Rattle.numerals.specs.Kinds.{expr_byte};
-ghost use Rattle.parts.specs.Places.{eight_at};
-ghost use Rattle.exprs.specs.ExprAt.{expr_at};
+ghost use Rattle.tree_view.specs.Places.{eight_at};
+ghost use Rattle.tree_view.specs.ExprAt.{expr_at};
 ghost use Rattle.exprs.specs.Literals.{literal_of, kind_byte, PlainLiteral, TextPlace, bits_of, LiteralAt, LiteralStands};
 
 use numerals::kinds::ExprKind;
-use parts::numbers::u16_at;
+use tree_view::numbers::u16_at;
 
 // The bit of a float's sign, and the bits of infinity: a NaN's are above these, but for the sign.
 const SIGN: u64 = 0x8000_0000_0000_0000;

@@ -16,10 +16,10 @@ use Rattle.numerals.specs.declared.kinds.ExprKind.{ExprKind}
 use Rattle.numerals.specs.declared.kinds.ExprKind.TheVariants.{Unary, Binary, Call, Attribute, List as ListKind, Dict, Tuple, Set, TreeSet, Index, Lambda}
 use Rattle.state.specs.State.{slots_from, slot_names}
 use Rattle.definitions.specs.Fits.{fits_expr, fits_exprs, fits_target}
-use Rattle.parts.specs.Places.{Node, name_end, There, params_at}
-use Rattle.exprs.specs.ExprAt.{expr_at, exprs_at, ExprReads, ExprsRead, var_at, unary_at, TwoAt, second_at, binary_at, ListAt, list_at}
-use Rattle.exprs.specs.ExprAt.{CallAt, call_at, AttributeAt, attribute_at, display_at, pairs_at, dict_at, index_at, lambda_at, cons_exprs_at}
-use Rattle.exprs.proofs.ExprViews.{view-var, view-unary, view-binary, view-call, view-attribute, view-dict, view-index, view-lambda, view-exprs-none, view-exprs-more}
+use Rattle.tree_view.specs.Places.{Node, name_end, There, params_at}
+use Rattle.tree_view.specs.ExprAt.{expr_at, exprs_at, ExprReads, ExprsRead, var_at, unary_at, TwoAt, second_at, binary_at, ListAt, list_at}
+use Rattle.tree_view.specs.ExprAt.{CallAt, call_at, AttributeAt, attribute_at, display_at, pairs_at, dict_at, index_at, lambda_at, cons_exprs_at}
+use Rattle.tree_view.proofs.ExprViews.{view-var, view-unary, view-binary, view-call, view-attribute, view-dict, view-index, view-lambda, view-exprs-none, view-exprs-more}
 use Rattle.slots.specs.Slotted.{Collected}
 use Rattle.slots.proofs.Skipping.{plain_done}
 use Rattle.slots.proofs.Kinded.{seen-literal, seen-display, form-var, form-attribute, form-tuple, form-index}
@@ -27,8 +27,8 @@ use Rattle.fits.specs.Walk.{WalkAnswers, lambda_fits}
 use Rattle.std.specs.Prelude.{Option, Some}
 use Rattle.fits.proofs.Walking.{walks-as, next-walks, Left, Step, lambda-inside}
 use Rattle.definitions.proofs.Begins.{le-or-gt}
-use Rattle.exprs.proofs.Operators.{unary-each, binary-each}
-use Rattle.exprs.proofs.OtherForms.{other-form}
+use Rattle.tree_view.proofs.Operators.{unary-each, binary-each}
+use Rattle.tree_view.proofs.OtherForms.{other-form}
 
 module _ (d : ℕ) (t : List ℕ) (p : ℕ) (r : ExprReads d t p) (slots : List Name) where
   abbrev x : Node Expr

@@ -10,14 +10,14 @@ use Rattle.definitions.specs.Tree.{Stmt, Block, Branches, Methods}
 use Rattle.definitions.specs.Slots.{with_loops}
 use Rattle.state.specs.State.{slots_from, slot_names}
 use Rattle.definitions.specs.Fits.{fits_expr, fits_target, fits_stmt, fits_block, fits_branches, fits_methods}
-use Rattle.parts.specs.Places.{Node, count_at, name_end, params_at}
-use Rattle.exprs.specs.ExprAt.{expr_at, second_at}
-use Rattle.tree.specs.StmtAt.{stmt_at, block_at, stmts_at, branches_at, methods_at, StmtReads, BlockReads, StmtsRead, BranchesRead}
-use Rattle.tree.specs.StmtAt.{MethodsRead, expr_stmt_at, return_at, assign_at, BranchAt, body_at, elifs_at, if_at, while_at, for_at, when_at}
-use Rattle.tree.specs.StmtAt.{else_at, DefAt, def_block_at, def_at, method_at, ClassAt, class_methods_at, class_at, cons_at}
-use Rattle.tree.proofs.StmtViews.{view-break, view-continue, view-pass, view-expr, view-return, view-assign, view-if, view-while}
-use Rattle.tree.proofs.StmtViews.{view-for, view-def, view-class, view-block, view-stmts-none, view-stmts-more, view-branches-more}
-use Rattle.tree.proofs.StmtViews.{else-known, view-done, view-else, view-methods-none, view-methods-more}
+use Rattle.tree_view.specs.Places.{Node, count_at, name_end, params_at}
+use Rattle.tree_view.specs.ExprAt.{expr_at, second_at}
+use Rattle.tree_view.specs.StmtAt.{stmt_at, block_at, stmts_at, branches_at, methods_at, StmtReads, BlockReads, StmtsRead, BranchesRead}
+use Rattle.tree_view.specs.StmtAt.{MethodsRead, expr_stmt_at, return_at, assign_at, BranchAt, body_at, elifs_at, if_at, while_at, for_at, when_at}
+use Rattle.tree_view.specs.StmtAt.{else_at, DefAt, def_block_at, def_at, method_at, ClassAt, class_methods_at, class_at, cons_at}
+use Rattle.tree_view.proofs.StmtViews.{view-break, view-continue, view-pass, view-expr, view-return, view-assign, view-if, view-while}
+use Rattle.tree_view.proofs.StmtViews.{view-for, view-def, view-class, view-block, view-stmts-none, view-stmts-more, view-branches-more}
+use Rattle.tree_view.proofs.StmtViews.{else-known, view-done, view-else, view-methods-none, view-methods-more}
 use Rattle.slots.specs.Slotted.{Frames}
 use Rattle.slots.specs.declared.collect.Framed.{Framed}
 use Rattle.slots.proofs.Adding.{none-names}

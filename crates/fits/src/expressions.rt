@@ -3,18 +3,18 @@ ghost use Rattle.std.specs.Prelude.{◌&&◌, ◌++◌, ◌+◌, ◌*◌, ◌<�
 ghost use Rattle.definitions.specs.Slots.{captures};
 ghost use Rattle.state.specs.State.{slot_names};
 ghost use Rattle.definitions.specs.Fits.{fits_expr, fits_exprs, fits_target};
-ghost use Rattle.parts.specs.Places.{name_end, params_at};
-ghost use Rattle.exprs.specs.ExprAt.{expr_at, exprs_at, ExprReads, ExprsRead, TwoAt, second_at, CallAt, ListAt, list_at, DictAt, pairs_at, AttributeAt, LambdaAt};
+ghost use Rattle.tree_view.specs.Places.{name_end, params_at};
+ghost use Rattle.tree_view.specs.ExprAt.{expr_at, exprs_at, ExprReads, ExprsRead, TwoAt, second_at, CallAt, ListAt, list_at, DictAt, pairs_at, AttributeAt, LambdaAt};
 ghost use Rattle.fits.specs.Walk.{WalkAnswers, lambda_fits};
 
 use crate::frame::Frame;
 use numerals::kinds::ExprKind;
 use numerals::places::SLOTS_FROM;
 use numerals::sizes::SLOTS_ROOM;
-use parts::names::name_end;
-use parts::numbers::u16_at;
 use slots::captures::lambda_slots;
 use slots::skip::{skip_expr, skip_params};
+use tree_view::names::name_end;
+use tree_view::numbers::u16_at;
 
 // The answer of each is the next position, or none where a function has more than 255 slots.
 impl<'a> Frame<'a> {

@@ -3,19 +3,19 @@ ghost use Rattle.std.specs.Prelude.{◌≡◌, ◌≤◌, ◌&&◌, ◌+◌, ◌
 ghost use Rattle.definitions.specs.Slots.{with_loops};
 ghost use Rattle.state.specs.State.{slot_names};
 ghost use Rattle.definitions.specs.Fits.{fits_expr, fits_target, fits_stmt, fits_block, fits_branches, fits_methods};
-ghost use Rattle.parts.specs.Places.{name_end, params_at};
-ghost use Rattle.exprs.specs.ExprAt.{expr_at, TwoAt, second_at};
-ghost use Rattle.tree.specs.StmtAt.{stmt_at, block_at, branches_at, methods_at, StmtReads, BlockReads, BranchesRead, MethodsRead, BranchAt, body_at, IfAt, elifs_at, ForAt, DefAt, def_block_at, class_methods_at, TreeAt};
+ghost use Rattle.tree_view.specs.Places.{name_end, params_at};
+ghost use Rattle.tree_view.specs.ExprAt.{expr_at, TwoAt, second_at};
+ghost use Rattle.tree_view.specs.StmtAt.{stmt_at, block_at, branches_at, methods_at, StmtReads, BlockReads, BranchesRead, MethodsRead, BranchAt, body_at, IfAt, elifs_at, ForAt, DefAt, def_block_at, class_methods_at, TreeAt};
 ghost use Rattle.fits.specs.Walk.{WalkAnswers, def_fits};
 
 use crate::frame::Frame;
 use numerals::kinds::StmtKind;
 use numerals::places::SLOTS_FROM;
 use numerals::sizes::{DEPTH, HEAD, SLOTS_ROOM};
-use parts::names::name_end;
-use parts::numbers::u16_at;
 use slots::collect::collect_locals;
 use slots::skip::{skip_params, skip_stmt};
+use tree_view::names::name_end;
+use tree_view::numbers::u16_at;
 
 impl<'a> Frame<'a> {
     // A target and a value.

@@ -8,14 +8,14 @@ use Rattle.definitions.specs.Bytes.{Name, Parsed, got, Parser, ◌>>=◌, give, 
 use Rattle.definitions.specs.Parse.{params, parse_expr}
 use Rattle.definitions.proofs.Writes.{Writes}
 use Rattle.definitions.proofs.TreeReads.{Both}
-use Rattle.parts.specs.Places as Places
-use Rattle.parts.specs.Places.{count_at, name_end, There, names_from, names_end, AllThere, ParamsAt, params_at}
-use Rattle.parts.proofs.Laws.{follow, bind_is}
-use Rattle.parts.proofs.LeafLaws.{name-there, field-two}
-use Rattle.parts.proofs.LeafNodes.{name-within, names-within}
-use Rattle.parts.proofs.Nodes.{node-within, node-got}
-use Rattle.exprs.specs.ExprAt.{expr_at, ExprReads}
-use Rattle.exprs.proofs.ExprLaws.{steady-E}
+use Rattle.tree_view.specs.Places as Places
+use Rattle.tree_view.specs.Places.{count_at, name_end, There, names_from, names_end, AllThere, ParamsAt, params_at}
+use Rattle.tree_view.proofs.Laws.{follow, bind_is}
+use Rattle.tree_view.proofs.LeafLaws.{name-there, field-two}
+use Rattle.tree_view.proofs.LeafNodes.{name-within, names-within}
+use Rattle.tree_view.proofs.Nodes.{node-within, node-got}
+use Rattle.tree_view.specs.ExprAt.{expr_at, ExprReads}
+use Rattle.tree_view.proofs.ExprLaws.{steady-E}
 use Rattle.rests.specs.Taking.{span}
 use Rattle.rests.proofs.Spans.{got-after, got-fact}
 use Rattle.instep.specs.Stepping.{Bytes, Differs, Clear, SideBySide, same}

@@ -13,16 +13,16 @@ use Rattle.definitions.specs.TreeBytes.{size, elifs, method_count, expr_bytes, a
 use Rattle.definitions.specs.Rests.{is_pass, joined, rest_stmt, rest, rest_branches, rest_methods}
 use Rattle.definitions.proofs.Truth.{true-false}
 use Rattle.definitions.proofs.TreeStmts.{block-is, size-rest}
-use Rattle.parts.specs.Places as Places
-use Rattle.parts.specs.Places.{Node, node, count_at, name_end}
-use Rattle.parts.proofs.Laws.{steady-counted}
-use Rattle.parts.proofs.Nodes.{node-within}
-use Rattle.exprs.specs.ExprAt.{expr_at, second_at}
-use Rattle.tree.specs.StmtAt.{stmt_at, block_at, stmts_at, branches_at, methods_at, StmtReads, BlockReads, StmtsRead, BranchesRead, MethodsRead}
-use Rattle.tree.specs.StmtAt.{expr_stmt_at, return_at, assign_at, body_at, elifs_at, if_at, while_at, for_at, when_at, else_at, def_block_at, def_at, method_at, class_methods_at, class_at, cons_at}
-use Rattle.tree.proofs.StmtLaws.{steady-S}
-use Rattle.tree.proofs.StmtViews.{stmt-known, view-break, view-continue, view-pass, view-expr, view-return, view-assign, view-if, view-while, view-for, view-def, view-class}
-use Rattle.tree.proofs.StmtViews.{stmts-size, view-block, view-stmts-none, view-stmts-more, view-branches-more, else-known, view-done, view-else, view-methods-none, view-methods-more}
+use Rattle.tree_view.specs.Places as Places
+use Rattle.tree_view.specs.Places.{Node, node, count_at, name_end}
+use Rattle.tree_view.proofs.Laws.{steady-counted}
+use Rattle.tree_view.proofs.Nodes.{node-within}
+use Rattle.tree_view.specs.ExprAt.{expr_at, second_at}
+use Rattle.tree_view.specs.StmtAt.{stmt_at, block_at, stmts_at, branches_at, methods_at, StmtReads, BlockReads, StmtsRead, BranchesRead, MethodsRead}
+use Rattle.tree_view.specs.StmtAt.{expr_stmt_at, return_at, assign_at, body_at, elifs_at, if_at, while_at, for_at, when_at, else_at, def_block_at, def_at, method_at, class_methods_at, class_at, cons_at}
+use Rattle.tree_view.proofs.StmtLaws.{steady-S}
+use Rattle.tree_view.proofs.StmtViews.{stmt-known, view-break, view-continue, view-pass, view-expr, view-return, view-assign, view-if, view-while, view-for, view-def, view-class}
+use Rattle.tree_view.proofs.StmtViews.{stmts-size, view-block, view-stmts-none, view-stmts-more, view-branches-more, else-known, view-done, view-else, view-methods-none, view-methods-more}
 use Rattle.instep.specs.Stepping.{rest_stmt_at, rest_stmts_at, rest_block_at, rest_branch_at, rest_branches_at, rest_if_at, rest_for_at, rest_def_at, rest_methods_at}
 
 -- each of the eleven kinds

@@ -8,11 +8,11 @@ use Rattle.definitions.specs.Bytes.{be, list_bytes}
 use Rattle.definitions.specs.Module.{name_bytes}
 use Rattle.definitions.specs.TreeBytes.{size, expr_bytes, params_bytes, attribute_bytes, stmts_bytes}
 use Rattle.definitions.specs.Rests.{rest}
-use Rattle.parts.specs.Places as Places
-use Rattle.parts.specs.Places.{count_at, name_end, ParamsAt, params_at}
-use Rattle.exprs.specs.ExprAt.{expr_at, ExprReads, TwoAt, second_at}
-use Rattle.tree.specs.StmtAt.{stmt_at, block_at, stmts_at, branches_at, methods_at, StmtReads, BlockReads, StmtsRead, BranchesRead, MethodsRead, BranchAt, body_at, IfAt, elifs_at, ForAt, DefAt, def_block_at}
-use Rattle.tree.proofs.StmtViews.{view-class, view-branches-more, view-methods-more, else-known, view-else}
+use Rattle.tree_view.specs.Places as Places
+use Rattle.tree_view.specs.Places.{count_at, name_end, ParamsAt, params_at}
+use Rattle.tree_view.specs.ExprAt.{expr_at, ExprReads, TwoAt, second_at}
+use Rattle.tree_view.specs.StmtAt.{stmt_at, block_at, stmts_at, branches_at, methods_at, StmtReads, BlockReads, StmtsRead, BranchesRead, MethodsRead, BranchAt, body_at, IfAt, elifs_at, ForAt, DefAt, def_block_at}
+use Rattle.tree_view.proofs.StmtViews.{view-class, view-branches-more, view-methods-more, else-known, view-else}
 use Rattle.instep.specs.Stepping.{both_at, SideBySide, same, rest_stmt_at, rest_stmts_at, rest_block_at, rest_branch_at, rest_branches_at, rest_if_at, rest_for_at, rest_def_at, rest_methods_at}
 use Rattle.std.specs.Prelude.{Result, Ok, Err}
 use Rattle.std.specs.declared.cmp.Ordering.{Ordering}

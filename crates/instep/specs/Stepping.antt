@@ -7,10 +7,10 @@ use Rattle.definitions.specs.Bytes.{be}
 use Rattle.definitions.specs.Module.{name_bytes}
 use Rattle.definitions.specs.TreeBytes.{expr_bytes, params_bytes, stmt_bytes, stmts_bytes, block_bytes, branches_bytes, methods_bytes}
 use Rattle.definitions.specs.Rests.{rest_stmt, rest, rest_branches, rest_methods}
-use Rattle.parts.specs.Places as Places
-use Rattle.parts.specs.Places.{count_at, name_end, params_at}
-use Rattle.exprs.specs.ExprAt.{expr_at}
-use Rattle.tree.specs.StmtAt.{stmt_at, block_at, stmts_at, branches_at, methods_at, body_at, def_block_at}
+use Rattle.tree_view.specs.Places as Places
+use Rattle.tree_view.specs.Places.{count_at, name_end, params_at}
+use Rattle.tree_view.specs.ExprAt.{expr_at}
+use Rattle.tree_view.specs.StmtAt.{stmt_at, block_at, stmts_at, branches_at, methods_at, body_at, def_block_at}
 use Rattle.instep.specs.declared.Spot.{Spot}
 
 -- both trees are bytes

@@ -6,15 +6,15 @@ pub mod spans; // spans.rt: parts that a rest leaves as they are, and counts
 ghost use Rattle.std.specs.Prelude.{◌≡◌, ◌+◌, ◌-◌, ◌<◌, get_or};
 ghost use Rattle.definitions.specs.TreeBytes.{size};
 ghost use Rattle.definitions.specs.Rests.{rest};
-ghost use Rattle.parts.specs.Places.{name_end};
-ghost use Rattle.tree.specs.StmtAt.{stmt_at, block_at, stmts_at, branches_at, methods_at, StmtReads, BlockReads, StmtsRead, BranchesRead, MethodsRead, BranchAt, body_at, IfAt, elifs_at, ForAt, DefAt, def_block_at};
+ghost use Rattle.tree_view.specs.Places.{name_end};
+ghost use Rattle.tree_view.specs.StmtAt.{stmt_at, block_at, stmts_at, branches_at, methods_at, StmtReads, BlockReads, StmtsRead, BranchesRead, MethodsRead, BranchAt, body_at, IfAt, elifs_at, ForAt, DefAt, def_block_at};
 ghost use Rattle.instep.specs.Stepping.{Bytes, SideBySide, rest_stmt_at, rest_stmts_at, rest_block_at, rest_branch_at, rest_if_at, rest_branches_at, rest_for_at, rest_def_at, rest_methods_at};
 
 use crate::spans::{PASS, kept, same_number};
 use numerals::kinds::StmtKind;
-use parts::numbers::u16_at;
 use slots::skip::skip_stmt;
 use std::cmp::Ordering;
+use tree_view::numbers::u16_at;
 
 // Two trees, lent. What is asked of a place in each of them stays a clause of each step, which names the place.
 #[derive(Clone, Copy)]

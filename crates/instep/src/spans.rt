@@ -3,18 +3,18 @@ ghost use Rattle.std.specs.Prelude.{◌≡◌, ◌≤◌, ◌++◌, length};
 ghost use Rattle.definitions.specs.TreeBytes.{size, expr_bytes, params_bytes};
 ghost use Rattle.definitions.specs.Module.{name_bytes};
 ghost use Rattle.definitions.specs.Rests.{rest};
-ghost use Rattle.parts.specs.Places.{name_end, There, ParamsAt, params_at};
-ghost use Rattle.parts.specs.Places as Places;
-ghost use Rattle.exprs.specs.ExprAt.{expr_at, ExprReads, TwoAt, second_at};
-ghost use Rattle.tree.specs.StmtAt.{stmts_at, StmtsRead};
+ghost use Rattle.tree_view.specs.Places.{name_end, There, ParamsAt, params_at};
+ghost use Rattle.tree_view.specs.Places as Places;
+ghost use Rattle.tree_view.specs.ExprAt.{expr_at, ExprReads, TwoAt, second_at};
+ghost use Rattle.tree_view.specs.StmtAt.{stmts_at, StmtsRead};
 ghost use Rattle.rests.specs.Taking.{span};
 ghost use Rattle.instep.specs.Stepping.{Bytes, SideBySide, Clear, Ranked};
 
 use crate::{Spot, Trees};
 use numerals::kinds::StmtKind;
-use parts::names::name_end;
 use slots::skip::{skip_expr, skip_params, skip_stmt};
 use std::cmp::Ordering;
+use tree_view::names::name_end;
 
 // The kind byte of a Pass.
 pub(crate) const PASS: u8 = StmtKind::Pass as u8;

@@ -11,7 +11,7 @@ use limits::Limits;
 use names::making::{paste, paste_decimal};
 use numerals::sizes::AREA;
 use questions::Question;
-use std::io;
+use std::io::Result as IoResult;
 
 // One byte more than the longest tree, so that a longer one is refused; and the room for a module.
 const INPUT_ROOM: usize = 32769;
@@ -43,7 +43,7 @@ fn answer<'a>(input: &[u8], out: &'a mut [u8]) -> &'a [u8]
 }
 
 // An output that takes only a part of a module can't pass for one: a module's first bytes count the rest.
-fn main(rt: HostRuntime) -> io::Result<()> {
+fn main(rt: HostRuntime) -> IoResult<()> {
     let mut input = [0u8; INPUT_ROOM];
     let mut out = [0u8; MODULE_ROOM];
     let tree = read_full(&mut rt.stdin(), &mut input);

@@ -11,10 +11,10 @@ use Rattle.definitions.specs.Instruction.{Instr, instr, Jump}
 use Rattle.definitions.specs.Tables.{Emit, one, ◌⨟◌}
 use Rattle.definitions.specs.Slots.{Keeping, past, loops_block, loops_branches}
 use Rattle.definitions.specs.Lower.{loop, make_iter, ask_iter, take_iter, emit_expr, emit_stmt, emit_block}
-use Rattle.exprs.specs.ExprAt.{expr_at}
-use Rattle.parts.specs.Places.{Node}
-use Rattle.tree.specs.StmtAt.{body_at, block_at, branches_at}
-use Rattle.tree.proofs.LoopsAt.{elifs-loops}
+use Rattle.tree_view.specs.ExprAt.{expr_at}
+use Rattle.tree_view.specs.Places.{Node}
+use Rattle.tree_view.specs.StmtAt.{body_at, block_at, branches_at}
+use Rattle.tree_view.proofs.LoopsAt.{elifs-loops}
 use Rattle.state.specs.State.{State, emit_at, WithinLimits}
 use Rattle.state.specs.Steps.{set_at, branch, chain_at}
 use Rattle.state.specs.Kept.{keeping_of, after_loops, Spare, Passes}

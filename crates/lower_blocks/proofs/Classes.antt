@@ -15,10 +15,10 @@ use Rattle.definitions.specs.Tables.{Method}
 use Rattle.definitions.specs.Lower.{insert_method, begin_class, end_class}
 use Rattle.definitions.specs.Reader.{rising}
 use Rattle.definitions.proofs.MethodOrder.{rising-insert}
-use Rattle.parts.specs.Places.{Node, count_at, name_end, name_from, params_at}
-use Rattle.tree.specs.StmtAt as StmtAt
-use Rattle.tree.specs.StmtAt.{def_block_at, class_methods_at, method_at}
-use Rattle.tree.proofs.StmtViews.{view-methods-none, view-methods-more}
+use Rattle.tree_view.specs.Places.{Node, count_at, name_end, name_from, params_at}
+use Rattle.tree_view.specs.StmtAt as StmtAt
+use Rattle.tree_view.specs.StmtAt.{def_block_at, class_methods_at, method_at}
+use Rattle.tree_view.proofs.StmtViews.{view-methods-none, view-methods-more}
 use Rattle.state.specs.Words.{name_at}
 use Rattle.state.specs.State.{State, method_from, emit_at, Sound, WithinLimits, with_tables}
 use Rattle.state.specs.Steps.{method_function, emit_methods_at, methods_of}

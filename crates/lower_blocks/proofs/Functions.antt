@@ -13,9 +13,9 @@ use Rattle.definitions.specs.Tree.{Block}
 use Rattle.definitions.specs.Instruction.{Instr}
 use Rattle.definitions.specs.Tables.{Function, Tables, Emit, emits, ◌⨟◌, begin, block_body, set_code, function, coded}
 use Rattle.definitions.specs.Lower.{emit_block}
-use Rattle.parts.specs.Places.{count_at, name_end, params_at}
+use Rattle.tree_view.specs.Places.{count_at, name_end, params_at}
 use Rattle.definitions.specs.Slots.{Keeping, in_slots, Frame, with_loops, loops_block}
-use Rattle.tree.specs.StmtAt.{block_at, def_block_at}
+use Rattle.tree_view.specs.StmtAt.{block_at, def_block_at}
 use Rattle.state.specs.Words.{name_at}
 use Rattle.state.specs.State.{State, slots_from, slot_names, Slots, emit_at, Sound, WithinLimits, symbol_number, with_symbol, with_tables}
 use Rattle.state.specs.Steps.{begun, function_ended, method_function}

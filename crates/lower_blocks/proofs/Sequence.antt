@@ -7,9 +7,9 @@ use Rattle.std.specs.Prelude.{Option, Some, None}
 use Rattle.definitions.specs.Bytes.{Name}
 use Rattle.definitions.specs.Tables.{Emit}
 use Rattle.definitions.specs.Slots.{Keeping, past, loops_stmt, loops_block}
-use Rattle.parts.specs.Places.{count_at}
-use Rattle.tree.specs.StmtAt.{stmt_at, block_at, stmts_at}
-use Rattle.tree.proofs.LoopsAt.{loops-at, stmts-loops, none-loops}
+use Rattle.tree_view.specs.Places.{count_at}
+use Rattle.tree_view.specs.StmtAt.{stmt_at, block_at, stmts_at}
+use Rattle.tree_view.proofs.LoopsAt.{loops-at, stmts-loops, none-loops}
 use Rattle.state.specs.State.{State, emit_at, WithinLimits}
 use Rattle.state.specs.Kept.{keeping_of, after_loops, Spare, Passes}
 use Rattle.state.proofs.Kept.{after_none, after-sum, spare-first, spare-rest, keeping-past, passes_over}

@@ -12,10 +12,10 @@ use Rattle.definitions.specs.Tree.{Expr, var, call, View, as_var, as_attr, as_in
 use Rattle.definitions.specs.Instruction.{instr, CallMethod}
 use Rattle.definitions.specs.Tables.{Out, Emit, one, intern, ◌⨟◌}
 use Rattle.definitions.specs.Lower.{Callee, value_callee, resolve, call_by, emit_expr}
-use Rattle.parts.specs.Places.{Node, count_at, name_end}
-use Rattle.exprs.specs.ExprAt.{expr_at, list_at, ExprReads, binary_of, int_at, float_at, string_at, unary_at, binary_at, call_at, display_at, dict_at, index_at, lambda_at}
-use Rattle.exprs.proofs.ExprViews.{expr-known, view-none, view-false, view-true, view-int, view-float, view-string, view-unary, view-binary, view-call, view-list, view-dict}
-use Rattle.exprs.proofs.ExprViews.{view-tuple, view-set, view-tree-set, view-index, view-lambda, unary-of, binary-of, and-of, or-of}
+use Rattle.tree_view.specs.Places.{Node, count_at, name_end}
+use Rattle.tree_view.specs.ExprAt.{expr_at, list_at, ExprReads, binary_of, int_at, float_at, string_at, unary_at, binary_at, call_at, display_at, dict_at, index_at, lambda_at}
+use Rattle.tree_view.proofs.ExprViews.{expr-known, view-none, view-false, view-true, view-int, view-float, view-string, view-unary, view-binary, view-call, view-list, view-dict}
+use Rattle.tree_view.proofs.ExprViews.{view-tuple, view-set, view-tree-set, view-index, view-lambda, unary-of, binary-of, and-of, or-of}
 use Rattle.state.specs.Words.{name_at}
 use Rattle.state.specs.State.{State, emit_at}
 use Rattle.state.proofs.Views.{function-count}

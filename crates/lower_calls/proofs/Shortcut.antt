@@ -15,7 +15,7 @@ use Rattle.definitions.specs.Tables.{Emit, emits, one, ◌⨟◌}
 use Rattle.definitions.specs.Lower.{jump_on, shortcut}
 use Rattle.definitions.specs.Measured.{so_far, measure_expr}
 use Rattle.definitions.proofs.Measured.{measures}
-use Rattle.exprs.specs.ExprAt.{expr_at}
+use Rattle.tree_view.specs.ExprAt.{expr_at}
 use Rattle.state.specs.Words.{word}
 use Rattle.state.specs.State.{State, emit_at}
 use Rattle.definitions.proofs.Growth.{lengthens-one, lengthens-emits, lengthens-expr, lengthens-shortcut}

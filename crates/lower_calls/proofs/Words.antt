@@ -6,7 +6,7 @@ use Rattle.std.specs.Prelude.{Option, Some, None}
 use Rattle.definitions.specs.Instruction.{Instr}
 use Rattle.definitions.specs.Tables.{Emit, emits, one, ◌⨟◌}
 use Rattle.definitions.specs.Bytes.{Name}
-use Rattle.exprs.specs.ExprAt.{expr_at}
+use Rattle.tree_view.specs.ExprAt.{expr_at}
 use Rattle.state.specs.Words.{instr_of}
 use Rattle.lower_forms.specs.Lowerable.{SoleIn, expr_code}
 use Rattle.lower_forms.proofs.Sole.{sole-at}

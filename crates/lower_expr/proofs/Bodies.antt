@@ -10,8 +10,8 @@ use Rattle.definitions.specs.Instruction.{MakeClosure}
 use Rattle.definitions.specs.Tables.{Emit, one, ◌⨟◌, expr_body}
 use Rattle.definitions.specs.Lower.{loads}
 use Rattle.definitions.specs.Slots.{captures}
-use Rattle.parts.specs.Places.{params_at}
-use Rattle.exprs.specs.ExprAt.{expr_at}
+use Rattle.tree_view.specs.Places.{params_at}
+use Rattle.tree_view.specs.ExprAt.{expr_at}
 use Rattle.state.specs.State.{slots_from, slot_names, names_at}
 use Rattle.state.proofs.Views.{function-count}
 use Rattle.definitions.proofs.Growth.{Lengthens, lengthens-expr}

@@ -8,7 +8,7 @@ use Rattle.std.specs.Prelude.{Option, Some, None}
 use Rattle.std.proofs.lemmas.Option.{none-some}
 use Rattle.definitions.specs.Bytes.{Name}
 use Rattle.definitions.specs.Tables.{Emit}
-use Rattle.exprs.specs.ExprAt.{expr_at, exprs_at}
+use Rattle.tree_view.specs.ExprAt.{expr_at, exprs_at}
 use Rattle.state.specs.Words.{word}
 use Rattle.state.specs.State.{State, state_of, emit_at, Sound, Left, WithinLimits}
 use Rattle.state.specs.declared.Counts.{Counts}

@@ -11,8 +11,8 @@ ghost use Rattle.definitions.specs.Instruction.{instr, Build, LoadAttr};
 ghost use Rattle.definitions.specs.Tables.{one, ◌⨟◌, intern};
 ghost use Rattle.definitions.specs.Lower.{emit_expr, shortcut};
 ghost use Rattle.definitions.specs.Tree.{call, var};
-ghost use Rattle.parts.specs.Places.{count_at, name_end, params_at};
-ghost use Rattle.exprs.specs.ExprAt.{expr_at, exprs_at, second_at, list_at, binary_of};
+ghost use Rattle.tree_view.specs.Places.{count_at, name_end, params_at};
+ghost use Rattle.tree_view.specs.ExprAt.{expr_at, exprs_at, second_at, list_at, binary_of};
 ghost use Rattle.exprs.specs.Literals.{LiteralAt};
 ghost use Rattle.state.specs.Words.{name_at};
 ghost use Rattle.state.specs.State.{SymbolIndex, slot_names, slots_from};
@@ -37,11 +37,11 @@ use numerals::ops::{CALL_METHOD, JUMP, LOAD_ATTR, LOAD_INDEX, LOGICAL, SHORT};
 use numerals::places::SLOTS_FROM;
 use numerals::sizes::SLOTS_ROOM;
 use opcodes::{binary_code, build_code, held, unary_code};
-use parts::names::name_end;
-use parts::numbers::u16_at;
 use slots::captures::lambda_slots;
 use slots::skip::skip_params;
 use state::Scope;
+use tree_view::names::name_end;
+use tree_view::numbers::u16_at;
 
 // The literal at `at`.
 fn emit_literal_at(tree: &[u8], e: &mut Emitter<'_>, at: usize) -> Option<usize>

@@ -1,7 +1,7 @@
 // What measures a part where it is about to be written.
 ghost use Rattle.std.specs.Prelude.{◌≡◌, []};
 ghost use Rattle.definitions.specs.Measured.{so_far, measure_expr};
-ghost use Rattle.exprs.specs.ExprAt.{expr_at, ExprReads};
+ghost use Rattle.tree_view.specs.ExprAt.{expr_at, ExprReads};
 ghost use Rattle.state.specs.State.{slot_names};
 ghost use Rattle.lower_emit.specs.Emitting.{state_in};
 ghost use Rattle.lower_forms.specs.Lowerable.{SoleIn};

@@ -11,15 +11,15 @@ use Rattle.definitions.specs.Instruction.{StoreAttr, StoreIndex}
 use Rattle.definitions.specs.Tables.{Emit, emits, one, ◌⨟◌, intern}
 use Rattle.definitions.specs.Wellformed.{ask_expr}
 use Rattle.definitions.specs.Lower.{store, unpack, assign_by}
-use Rattle.parts.specs.Places.{Node, count_at, name_from, name_end}
-use Rattle.exprs.specs.ExprAt.{expr_at, var_at, attribute_at, display_at, index_at, second_at}
-use Rattle.exprs.proofs.ExprViews.{expr-deep, expr-inside, view-var, view-attribute, view-tuple, view-index}
+use Rattle.tree_view.specs.Places.{Node, count_at, name_from, name_end}
+use Rattle.tree_view.specs.ExprAt.{expr_at, var_at, attribute_at, display_at, index_at, second_at}
+use Rattle.tree_view.proofs.ExprViews.{expr-deep, expr-inside, view-var, view-attribute, view-tuple, view-index}
 use Rattle.state.specs.Words.{name_at}
 use Rattle.lower_forms.specs.Lowerable.{Relied, Lowerable, expr_code}
 use Rattle.lower_forms.proofs.ExprArms.{and_both}
 use Rattle.lower_forms.specs.Elements.{elements_at}
 use Rattle.lower_forms.specs.Assigned.{AssignLowerable, assign_code, VariableAssigned, AttributeAssigned, IndexAssigned, TupleAssigned}
-use Rattle.exprs.proofs.OtherForms.{other-form}
+use Rattle.tree_view.proofs.OtherForms.{other-form}
 use Rattle.lower_forms.proofs.Unpacking.{list-is}
 
 -- the assignment at p holds what Parts says; its code is e, by the names of the slots, and it ends at q

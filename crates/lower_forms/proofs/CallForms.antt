@@ -16,9 +16,9 @@ use Rattle.definitions.specs.Instruction as Instruction
 use Rattle.definitions.specs.Tables.{Tables, Emit, emits, one, ◌⨟◌, intern}
 use Rattle.definitions.proofs.Resolve.{CalleeIn, resolve-in}
 use Rattle.definitions.specs.Lower.{Callee, builtin_callee, function_callee, value_callee, resolve, call_named, call_by, emit_expr, emit_exprs}
-use Rattle.parts.specs.Places.{Node, count_at, name_from, name_end}
-use Rattle.exprs.specs.ExprAt.{expr_at, list_at, var_at, attribute_at}
-use Rattle.exprs.proofs.ExprViews.{expr-deep, view-var, view-attribute}
+use Rattle.tree_view.specs.Places.{Node, count_at, name_from, name_end}
+use Rattle.tree_view.specs.ExprAt.{expr_at, list_at, var_at, attribute_at}
+use Rattle.tree_view.proofs.ExprViews.{expr-deep, view-var, view-attribute}
 use Rattle.state.specs.Words.{name_at}
 use Rattle.lower_forms.specs.Lowerable.{expr_code, exprs_code, ArgsLowerable, CallLowerable, NamedLowerable, MethodLowerable, load_callee, call_instr, Short}
 use Rattle.lower_forms.proofs.ExprArms.{and_both, name-same, exprs-count}

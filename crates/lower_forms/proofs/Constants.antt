@@ -9,10 +9,10 @@ use Rattle.definitions.specs.Tree.{Expr}
 use Rattle.definitions.specs.Instruction.{instr}
 use Rattle.definitions.specs.Tables.{one}
 use Rattle.definitions.specs.Lower.{literal, emit_expr}
-use Rattle.parts.specs.Places as Places
-use Rattle.parts.specs.Places.{Node, count_at, eight_at}
-use Rattle.parts.proofs.Laws.{at_byte}
-use Rattle.exprs.proofs.ExprViews.{view-none, view-false, view-true}
+use Rattle.tree_view.specs.Places as Places
+use Rattle.tree_view.specs.Places.{Node, count_at, eight_at}
+use Rattle.tree_view.proofs.Laws.{at_byte}
+use Rattle.tree_view.proofs.ExprViews.{view-none, view-false, view-true}
 use Rattle.exprs.proofs.LiteralLaws.{eight_is}
 use Rattle.state.specs.Words.{big_endian_at, text_at}
 use Rattle.lower_forms.specs.Lowerable.{Lowerable}

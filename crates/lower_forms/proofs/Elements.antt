@@ -7,9 +7,9 @@ use Rattle.definitions.specs.Tree.{Exprs}
 use Rattle.definitions.specs.Wellformed.{ask_exprs}
 use Rattle.definitions.specs.Tables.{emits, ◌⨟◌}
 use Rattle.definitions.specs.Lower.{emit_exprs}
-use Rattle.parts.specs.Places.{Node}
-use Rattle.exprs.specs.ExprAt.{expr_at, exprs_at, cons_exprs_at}
-use Rattle.exprs.proofs.ExprViews.{view-exprs-none, view-exprs-more}
+use Rattle.tree_view.specs.Places.{Node}
+use Rattle.tree_view.specs.ExprAt.{expr_at, exprs_at, cons_exprs_at}
+use Rattle.tree_view.proofs.ExprViews.{view-exprs-none, view-exprs-more}
 use Rattle.lower_forms.specs.Lowerable.{Relied, Lowerable, LowerableMany, expr_code, exprs_code}
 use Rattle.lower_forms.proofs.ExprArms.{and_both}
 

@@ -14,18 +14,18 @@ use Rattle.definitions.specs.Wellformed.{if_asked, ask_name, distinct, ask_param
 use Rattle.definitions.specs.Instruction.{instr, Build, LoadAttr, LoadIndex, operator_code}
 use Rattle.definitions.specs.Tables.{Emit, one, ◌⨟◌, intern}
 use Rattle.definitions.specs.Lower.{literal, load, decides, shortcut, display_size, emit_expr, emit_exprs}
-use Rattle.parts.specs.Places.{Node, node, count_at, CountThere, name_from, name_end, There, params_at}
-use Rattle.exprs.specs.ExprAt.{expr_at, exprs_at, ExprsRead, unary_ops, binary_of, second_at, list_at, var_at, unary_at, binary_at, call_at, attribute_at, display_at, dict_at, index_at, lambda_at, cons_exprs_at}
+use Rattle.tree_view.specs.Places.{Node, node, count_at, CountThere, name_from, name_end, There, params_at}
+use Rattle.tree_view.specs.ExprAt.{expr_at, exprs_at, ExprsRead, unary_ops, binary_of, second_at, list_at, var_at, unary_at, binary_at, call_at, attribute_at, display_at, dict_at, index_at, lambda_at, cons_exprs_at}
 use Rattle.exprs.specs.Literals.{LiteralAt}
-use Rattle.exprs.proofs.ExprViews.{expr-deep, expr-inside, view-var, view-unary, view-binary, view-call, view-attribute, view-list, view-dict, view-tuple, view-set, view-tree-set}
-use Rattle.exprs.proofs.ExprViews.{view-index, view-lambda, view-exprs-none, view-exprs-more, unary-of, binary-of, and-of, or-of}
+use Rattle.tree_view.proofs.ExprViews.{expr-deep, expr-inside, view-var, view-unary, view-binary, view-call, view-attribute, view-list, view-dict, view-tuple, view-set, view-tree-set}
+use Rattle.tree_view.proofs.ExprViews.{view-index, view-lambda, view-exprs-none, view-exprs-more, unary-of, binary-of, and-of, or-of}
 use Rattle.exprs.proofs.LiteralLaws.{view-literal}
 use Rattle.state.specs.Words.{name_at}
 use Rattle.lower_forms.specs.Lowerable.{Relied, of_counts, Lowerable, LowerableMany, expr_code, exprs_code, UnaryLowerable, TwoLowerable, BinaryLowerable, ArgsLowerable, CallLowerable}
 use Rattle.lower_forms.specs.Lowerable.{AttributeLowerable, DisplayLowerable, LambdaLowerable, lambda_code}
 use Rattle.opcodes.specs.Codes.{unary_opcode, display_by_kind, held_of}
 use Rattle.opcodes.proofs.Opcodes.{operator-is}
-use Rattle.parts.proofs.NameLaws.{length-names}
+use Rattle.tree_view.proofs.NameLaws.{length-names}
 pub use Rattle.definitions.proofs.Truth.{both as and_both}
 
 -- the expression at p holds what Parts says; its code is e, by the names of the slots, and it ends at q

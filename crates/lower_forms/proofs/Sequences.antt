@@ -11,9 +11,9 @@ use Rattle.definitions.specs.Wellformed.{init}
 use Rattle.definitions.specs.Lower.{method_end}
 use Rattle.definitions.specs.Reader.{jumps, is_jump}
 use Rattle.definitions.specs.Open.{flows}
-use Rattle.parts.specs.Places.{Node}
+use Rattle.tree_view.specs.Places.{Node}
 use Rattle.definitions.specs.Tree.{Branches, else}
-use Rattle.tree.specs.StmtAt.{block_at, branches_at, else_at}
+use Rattle.tree_view.specs.StmtAt.{block_at, branches_at, else_at}
 use Rattle.state.specs.State.{State, emit_at}
 use Rattle.state.proofs.Emission.{at_more}
 use Rattle.lower_emit.specs.Ops.{special, Plain}

@@ -14,13 +14,13 @@ use Rattle.definitions.specs.Tables.{Emit, emits, one, ◌⨟◌}
 use Rattle.definitions.specs.Wellformed.{init, if_asked, is_target, is_full, ask_name, ask_params, ask_expr, ask_target, ask_stmt, ask_block, ask_branches, ask_method, ask_methods, ask_attribute}
 use Rattle.definitions.specs.Slots.{Keeping, past, loops_stmt}
 use Rattle.definitions.specs.Lower.{loop, emit_stmt, emit_block}
-use Rattle.parts.specs.Places.{Node, node, count_at, CountThere, name_from, name_end, params_at}
-use Rattle.exprs.specs.ExprAt.{expr_at, second_at}
-use Rattle.tree.specs.StmtAt.{stmt_at, block_at, stmts_at, branches_at, methods_at, attributes_at, expr_stmt_at, return_at, assign_at, body_at, elifs_at, if_at, while_at, for_at, when_at, else_at}
-use Rattle.tree.specs.StmtAt.{def_block_at, def_at, method_at, class_methods_at, class_at, cons_at}
-use Rattle.tree.proofs.StmtViews.{stmt-deep, stmt-inside, stmt-known, view-break, view-continue, view-pass, view-expr, view-return, view-assign, view-if, view-while, view-for}
-use Rattle.tree.proofs.StmtViews.{view-def, view-class, view-block, view-stmts-none, view-stmts-more, view-branches-more, else-inside, else-known, view-done, view-else}
-use Rattle.tree.proofs.StmtViews.{view-methods-more}
+use Rattle.tree_view.specs.Places.{Node, node, count_at, CountThere, name_from, name_end, params_at}
+use Rattle.tree_view.specs.ExprAt.{expr_at, second_at}
+use Rattle.tree_view.specs.StmtAt.{stmt_at, block_at, stmts_at, branches_at, methods_at, attributes_at, expr_stmt_at, return_at, assign_at, body_at, elifs_at, if_at, while_at, for_at, when_at, else_at}
+use Rattle.tree_view.specs.StmtAt.{def_block_at, def_at, method_at, class_methods_at, class_at, cons_at}
+use Rattle.tree_view.proofs.StmtViews.{stmt-deep, stmt-inside, stmt-known, view-break, view-continue, view-pass, view-expr, view-return, view-assign, view-if, view-while, view-for}
+use Rattle.tree_view.proofs.StmtViews.{view-def, view-class, view-block, view-stmts-none, view-stmts-more, view-branches-more, else-inside, else-known, view-done, view-else}
+use Rattle.tree_view.proofs.StmtViews.{view-methods-more}
 use Rattle.state.specs.Words.{name_at}
 use Rattle.lower_forms.specs.Lowerable.{Relied, of_counts, Lowerable, expr_code}
 use Rattle.lower_forms.specs.Assigned.{AssignLowerable, assign_code}

@@ -14,9 +14,9 @@ use Rattle.definitions.specs.Instruction.{ConstI64, LoadIndex, Dup}
 use Rattle.definitions.specs.Tables.{one, ◌⨟◌}
 use Rattle.definitions.specs.Wellformed.{is_tuple}
 use Rattle.definitions.specs.Lower.{store, copy, emit_target, unpack}
-use Rattle.parts.specs.Places.{Node, count_at, name_from, There}
-use Rattle.exprs.specs.ExprAt.{expr_at, exprs_at, ExprReads, ExprsRead, var_at, attribute_at, display_at, index_at, ListAt, cons_exprs_at}
-use Rattle.exprs.proofs.ExprViews.{expr-deep, view-var, view-attribute, view-tuple, view-index, view-exprs-none, view-exprs-more}
+use Rattle.tree_view.specs.Places.{Node, count_at, name_from, There}
+use Rattle.tree_view.specs.ExprAt.{expr_at, exprs_at, ExprReads, ExprsRead, var_at, attribute_at, display_at, index_at, ListAt, cons_exprs_at}
+use Rattle.tree_view.proofs.ExprViews.{expr-deep, view-var, view-attribute, view-tuple, view-index, view-exprs-none, view-exprs-more}
 use Rattle.state.specs.Words.{name_at}
 use Rattle.state.specs.State.{State, emit_at}
 use Rattle.state.specs.Steps.{is_stored}
@@ -24,7 +24,7 @@ use Rattle.state.proofs.Emission.{base_kept, at-three}
 use Rattle.state.proofs.StmtEmission.{at-copy-first, at_copy, at-target-other, at-unpack-none, at-unpack-more}
 use Rattle.lower_emit.specs.Ops.{special, Plain}
 use Rattle.lower_forms.specs.Elements.{ElementsRead, elements_at, elements_end}
-use Rattle.exprs.proofs.OtherForms.{other-form}
+use Rattle.tree_view.proofs.OtherForms.{other-form}
 
 -- ---- expressions one after the other
 

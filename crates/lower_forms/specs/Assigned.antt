@@ -5,8 +5,8 @@ use Rattle.definitions.specs.Tree.{view}
 use Rattle.definitions.specs.Tables.{Emit}
 use Rattle.definitions.specs.Wellformed.{ask_expr}
 use Rattle.definitions.specs.Lower.{assign_by}
-use Rattle.parts.specs.Places.{There, name_end}
-use Rattle.exprs.specs.ExprAt.{expr_at, ExprReads, ListAt, second_at}
+use Rattle.tree_view.specs.Places.{There, name_end}
+use Rattle.tree_view.specs.ExprAt.{expr_at, ExprReads, ListAt, second_at}
 use Rattle.lower_forms.specs.Lowerable.{Relied, Lowerable, expr_code}
 
 pub record AssignLowerable (d : ℕ) (t : List ℕ) (p : ℕ) : Type 0 where

@@ -1,7 +1,7 @@
 -- Expressions one after the other: that they read, what they are, where they end.
 use Rattle.std.specs.Prelude.{ℕ, zero, suc, List}
 use Rattle.definitions.specs.Tree.{Exprs, []ᵉ, ◌∷ᵉ◌}
-use Rattle.exprs.specs.ExprAt.{expr_at, ExprReads}
+use Rattle.tree_view.specs.ExprAt.{expr_at, ExprReads}
 
 unfoldable pub ElementsRead : ℕ → List ℕ → ℕ → ℕ → Type 0
 ElementsRead d t zero p = Unit {0}

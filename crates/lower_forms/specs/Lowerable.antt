@@ -9,8 +9,8 @@ use Rattle.definitions.specs.Instruction
 use Rattle.definitions.specs.Tables.{Emit, emits, one, ◌⨟◌, function, expr_body, intern}
 use Rattle.definitions.specs.Slots.{captures, names_only}
 use Rattle.definitions.specs.Lower.{Callee, builtin_callee, function_callee, value_callee, load, lambda_name, closure, emit_expr, emit_exprs}
-use Rattle.parts.specs.Places.{count_at, CountThere, name_end, There, ParamsAt, params_at}
-use Rattle.exprs.specs.ExprAt.{expr_at, exprs_at, ExprReads, ExprsRead}
+use Rattle.tree_view.specs.Places.{count_at, CountThere, name_end, There, ParamsAt, params_at}
+use Rattle.tree_view.specs.ExprAt.{expr_at, exprs_at, ExprReads, ExprsRead}
 use Rattle.state.specs.Words.{name_at}
 use Rattle.state.specs.State.{names_at}
 use Rattle.lower_emit.specs.declared.emitter.Emitter.{Emitter}

@@ -8,9 +8,9 @@ use Rattle.definitions.specs.Tables.{Emit, emits, ◌⨟◌, function, block_bod
 use Rattle.definitions.specs.Wellformed.{ask_stmt, ask_block, ask_branches, ask_methods}
 use Rattle.definitions.specs.Slots.{Keeping, Frame, with_loops}
 use Rattle.definitions.specs.Lower.{emit_stmt, emit_block, begin_class, class_out, emit_methods}
-use Rattle.parts.specs.Places.{count_at, CountThere, name_end, There, ParamsAt, params_at}
-use Rattle.exprs.specs.ExprAt.{expr_at}
-use Rattle.tree.specs.StmtAt.{stmt_at, block_at, stmts_at, branches_at, methods_at, StmtReads, BlockReads, StmtsRead, BranchesRead, MethodsRead, body_at, def_block_at}
+use Rattle.tree_view.specs.Places.{count_at, CountThere, name_end, There, ParamsAt, params_at}
+use Rattle.tree_view.specs.ExprAt.{expr_at}
+use Rattle.tree_view.specs.StmtAt.{stmt_at, block_at, stmts_at, branches_at, methods_at, StmtReads, BlockReads, StmtsRead, BranchesRead, MethodsRead, body_at, def_block_at}
 use Rattle.state.specs.Words.{name_at}
 use Rattle.lower_forms.specs.Lowerable.{Relied, Lowerable}
 

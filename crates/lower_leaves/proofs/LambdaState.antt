@@ -14,8 +14,8 @@ use Rattle.definitions.specs.Instruction.{Return, MakeClosure, LoadLocal}
 use Rattle.definitions.specs.Tables.{Function, Body, expr_body, Emit, one, ◌⨟◌, function, coded}
 use Rattle.definitions.specs.Slots.{names_only, within, insert, sort, captures}
 use Rattle.definitions.specs.Lower.{lambda_name, load, loads, closure, emit_expr}
-use Rattle.parts.specs.Places.{params_at, count_at}
-use Rattle.exprs.specs.ExprAt.{expr_at}
+use Rattle.tree_view.specs.Places.{params_at, count_at}
+use Rattle.tree_view.specs.ExprAt.{expr_at}
 use Rattle.state.specs.Words.{name_at}
 use Rattle.state.specs.State.{State, state_of, names_at, slots_from, Slots, emit_at, with_tables, symbol_number, with_symbol, Sound, WithinLimits, Left}
 use Rattle.state.specs.Steps.{begun, function_ended}

@@ -15,11 +15,11 @@ use Rattle.definitions.specs.Tables.{Emit, Body, one, ◌⨟◌, function}
 use Rattle.definitions.specs.Tree.{lit}
 use Rattle.definitions.specs.Lower.{lambda_name, load, loads, literal}
 use Rattle.definitions.proofs.Resolve.{position-lt}
-use Rattle.exprs.specs.ExprAt.{expr_at}
+use Rattle.tree_view.specs.ExprAt.{expr_at}
 use Rattle.exprs.specs.Literals.{literal_of, bits_of, LiteralAt}
 use Rattle.exprs.specs.declared.literals.Literal.{Literal}
 use Rattle.exprs.specs.declared.literals.Literal.TheVariants.{Int}
-use Rattle.exprs.proofs.ExprViews.{expr-inside}
+use Rattle.tree_view.proofs.ExprViews.{expr-inside}
 use Rattle.state.specs.Words.{word, name_at}
 use Rattle.state.specs.State.{emit_at, Sound, Left, WithinLimits, names_at, slot_names, slots_from, Slots, symbol_number}
 use Rattle.state.specs.Steps.{function_ended}

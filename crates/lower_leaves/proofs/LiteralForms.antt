@@ -14,13 +14,13 @@ use lib.IntN.{ℤ}
 use lib.Ieee.{Float}
 use Rattle.definitions.specs.Tables.{Emit, one, get_or_add_string}
 use Rattle.definitions.specs.Lower.{literal}
-use Rattle.parts.specs.Places as Places
-use Rattle.parts.specs.Places.{Node, node, count_at, CountThere}
-use Rattle.exprs.specs.ExprAt.{expr_at, int_at, float_at, string_at}
+use Rattle.tree_view.specs.Places as Places
+use Rattle.tree_view.specs.Places.{Node, node, count_at, CountThere}
+use Rattle.tree_view.specs.ExprAt.{expr_at, int_at, float_at, string_at}
 use Rattle.exprs.specs.Literals.{literal_of, kind_byte, TextPlace, LiteralAt}
 use Rattle.exprs.specs.declared.literals.Literal.{Literal}
 use Rattle.exprs.specs.declared.literals.Literal.TheVariants.{None, Bool as Truth, Int, Float as Double, Nan, Text as Bytestring}
-use Rattle.exprs.proofs.ExprViews.{expr-within, view-none, view-false, view-true, view-int, view-float, view-string}
+use Rattle.tree_view.proofs.ExprViews.{expr-within, view-none, view-false, view-true, view-int, view-float, view-string}
 use Rattle.state.specs.Words.{big_endian_at, text_at}
 use Rattle.lower_forms.proofs.Constants.{text_same, eight-same}
 

@@ -9,8 +9,8 @@ use lib.ListN.{length, take, drop, get_or, set, length-set, length-drop}
 use lib.Seq.{length-take-le}
 use borrow.Rule.Slice.PartMut.{put_mid, mid_of, post_of, put_same}
 use Rattle.std.proofs.lemmas.List.{set-append_left, set-append_right}
-use Rattle.exprs.specs.ExprAt.{expr_at}
-use Rattle.exprs.proofs.ExprViews.{expr-known}
+use Rattle.tree_view.specs.ExprAt.{expr_at}
+use Rattle.tree_view.proofs.ExprViews.{expr-known}
 use Rattle.state.specs.Words.{word}
 use Rattle.lower_forms.specs.Lowerable.{Lowerable, LowerableMany}
 use Rattle.lower_forms.proofs.ExprArms.{arm-inside, many-at}

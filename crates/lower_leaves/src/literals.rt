@@ -2,7 +2,7 @@
 ghost use Rattle.std.specs.Prelude.{◌≡◌, ◌≤◌, length};
 ghost use Rattle.definitions.specs.Lower.{literal};
 ghost use Rattle.definitions.specs.Tree.{lit};
-ghost use Rattle.exprs.specs.ExprAt.{expr_at};
+ghost use Rattle.tree_view.specs.ExprAt.{expr_at};
 ghost use Rattle.exprs.specs.Literals.{literal_of, LiteralAt, PlainLiteral, TextPlace};
 ghost use Rattle.lower_names.specs.Naming.{Texts};
 ghost use Rattle.lower_leaves.specs.Literals.{QuotesTo};

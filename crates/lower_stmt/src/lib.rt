@@ -9,10 +9,10 @@ ghost use Rattle.definitions.specs.Slots.{loops_stmt, loops_block, loops_branche
 ghost use Rattle.definitions.specs.Tables.{emits, ◌⨟◌};
 ghost use Rattle.definitions.specs.Tree.{if, when, for};
 ghost use Rattle.definitions.specs.Lower.{loop, ask_iter, take_iter, emit_stmt};
-ghost use Rattle.parts.specs.Places.{There, name_end};
-ghost use Rattle.exprs.specs.ExprAt.{expr_at};
-ghost use Rattle.tree.specs.StmtAt.{stmt_at, block_at, stmts_at, branches_at, body_at, elifs_at, def_block_at, class_methods_at};
-ghost use Rattle.tree.specs.StmtAt as StmtAt;
+ghost use Rattle.tree_view.specs.Places.{There, name_end};
+ghost use Rattle.tree_view.specs.ExprAt.{expr_at};
+ghost use Rattle.tree_view.specs.StmtAt.{stmt_at, block_at, stmts_at, branches_at, body_at, elifs_at, def_block_at, class_methods_at};
+ghost use Rattle.tree_view.specs.StmtAt as StmtAt;
 ghost use Rattle.state.specs.Words.{name_at};
 ghost use Rattle.state.specs.State.{emit_at, slot_names};
 ghost use Rattle.state.specs.Steps.{branch, chain_at, emit_methods_at, methods_of};
@@ -33,11 +33,11 @@ use numerals::kinds::StmtKind;
 use numerals::ops::{JUMP, JUMP_IF_FALSE};
 use numerals::places::{METHODS_ROOM, SLOTS_FROM};
 use numerals::sizes::SLOTS_ROOM;
-use parts::names::name_end;
-use parts::numbers::u16_at;
 use slots::collect::collect_locals;
 use slots::skip::{skip_params, skip_stmt};
 use state::Scope;
+use tree_view::names::name_end;
+use tree_view::numbers::u16_at;
 
 // The statement at `at`, with `depth` levels left.
 #[cycle(emit)]

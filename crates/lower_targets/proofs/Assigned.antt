@@ -8,8 +8,8 @@ use Rattle.definitions.specs.Bytes.{Name}
 use Rattle.definitions.specs.Instruction.{ConstI64, LoadIndex, StoreAttr, StoreIndex}
 use Rattle.definitions.specs.Tables.{Emit, emits, one, intern, ◌⨟◌}
 use Rattle.definitions.specs.Lower.{copy, emit_target, unpack}
-use Rattle.parts.specs.Places.{name_end}
-use Rattle.exprs.specs.ExprAt.{expr_at, ExprReads}
+use Rattle.tree_view.specs.Places.{name_end}
+use Rattle.tree_view.specs.ExprAt.{expr_at, ExprReads}
 use Rattle.state.specs.Words.{name_at}
 use Rattle.state.specs.State.{State, emit_at}
 use Rattle.state.proofs.Answers.{base-below}

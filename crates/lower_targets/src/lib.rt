@@ -7,8 +7,8 @@ ghost use Rattle.std.specs.Prelude.{◌+◌, ◌-◌, ◌≤◌};
 ghost use Rattle.definitions.specs.Instruction.{StoreAttr, StoreIndex};
 ghost use Rattle.definitions.specs.Tables.{one, ◌⨟◌, intern};
 ghost use Rattle.definitions.specs.Lower.{store, emit_target, unpack};
-ghost use Rattle.parts.specs.Places.{count_at, name_end};
-ghost use Rattle.exprs.specs.ExprAt.{expr_at, second_at, ExprReads};
+ghost use Rattle.tree_view.specs.Places.{count_at, name_end};
+ghost use Rattle.tree_view.specs.ExprAt.{expr_at, second_at, ExprReads};
 ghost use Rattle.state.specs.Words.{name_at};
 ghost use Rattle.state.specs.State.{slot_names};
 ghost use Rattle.lower_forms.specs.Lowerable.{SoleIn, expr_code};
@@ -22,10 +22,10 @@ use lower_leaves::elements::{put_element, skip_exprs};
 use lower_names::{emit_store, emit_symbol};
 use numerals::kinds::ExprKind;
 use numerals::ops::{STORE_ATTR, STORE_INDEX};
-use parts::names::name_end;
-use parts::numbers::u16_at;
 use slots::skip::skip_expr;
 use state::Scope;
+use tree_view::names::name_end;
+use tree_view::numbers::u16_at;
 
 // The value on the stack is stored in the target at `at`, an element of a tuple target. What question 10 refuses stores nothing.
 #[cycle(emit)]

@@ -4,7 +4,7 @@
 use limits::Limits;
 use numerals::sizes::AREA;
 use report::Hex;
-use std::io;
+use std::io::Result as IoResult;
 use vectors::Lines;
 
 // Room for a tree, so long a one too that it is refused, and for a module.
@@ -13,7 +13,7 @@ const TREE_ROOM: usize = 40000;
 const MODULE_ROOM: usize = 65536;
 
 // The answer to a tree, in a line.
-fn answer(rt: &impl Print, tree: &[u8]) -> io::Result<()> {
+fn answer(rt: &impl Print, tree: &[u8]) -> IoResult<()> {
     let mut area1 = [0u32; AREA];
     let mut area2 = [0u32; AREA];
     let mut module = [0u8; MODULE_ROOM];
@@ -24,6 +24,6 @@ fn answer(rt: &impl Print, tree: &[u8]) -> io::Result<()> {
 }
 
 // What such replays share stands in `vectors`: the room and the answer alone are told here.
-fn main(rt: HostRuntime) -> io::Result<()> {
+fn main(rt: HostRuntime) -> IoResult<()> {
     Lines::new(rt.stdin()).replay(&rt, &mut [0; TREE_ROOM], |tree| answer(&rt, tree))
 }

@@ -18,6 +18,7 @@ use module::Lowered;
 use numerals::sizes::{AREA, MADE_ROOM};
 use questions::Question;
 use settle::settle;
+use state::Limits as LimitNumbers;
 
 // Question 16: the module of the emitter's tables where the output has room for it; how many bytes of the output it is.
 fn write_tables(tree: &[u8], e: &Emitter<'_>, out: &mut [u8]) -> Result<usize, Question>
@@ -45,7 +46,7 @@ fn lower_into(
     code: &mut [u32],
     tables: &mut [u32],
     out: &mut [u8],
-    limits: state::Limits,
+    limits: LimitNumbers,
     jumps: Jumps,
 ) -> Result<usize, Question>
     requires { (16384 ≤ length code.old) × (16384 ≤ length tables.old) × Limited limits }

@@ -6,9 +6,9 @@ use mathlib.Core.List.{List}
 use native.Mathlib.Omega.{arith}
 use lib.ListN.{drop, length-drop}
 use Rattle.definitions.specs.Bytes.{Parsed, Parser}
-use Rattle.parts.specs.Places.{is_got, node_of, node_at, Reads}
-use Rattle.parts.proofs.Laws.{Went, went, lost, Steady}
-use Rattle.parts.proofs.Nodes.{not-got}
+use Rattle.tree_view.specs.Places.{is_got, node_of, node_at, Reads}
+use Rattle.tree_view.proofs.Laws.{Went, went, lost, Steady}
+use Rattle.tree_view.proofs.Nodes.{not-got}
 
 module _ {A : Type 0} (z : A) (P : Parser A) (t : List ℕ) (p : ℕ) (s : Steady P) (r : Reads P t p) where
   goes : (g : Parsed A) → Went (drop p t) g → is_got g ≡ true → p ≤ (node_of z t g).end

@@ -14,22 +14,22 @@ use Rattle.definitions.specs.Tree.{Expr, lit, var, unary, binary, logical, call,
 use Rattle.definitions.specs.Tree.{View, as_var, as_attr, as_index, as_tuple, as_other, view, view_display}
 use Rattle.definitions.specs.Slots.{captures}
 use Rattle.definitions.specs.Measured.{SoFar, direct, measure_call, measure_expr, measure_exprs, measure_object}
-use Rattle.parts.specs.Places.{Node, count_at, name_end, params_at, text_node_at}
-use Rattle.exprs.specs.ExprAt.{expr_at, exprs_at, ExprReads, ExprsRead, unary_of, binary_of, var_at, string_at, unary_at, second_at}
-use Rattle.exprs.specs.ExprAt.{binary_at, list_at, call_at, attribute_at, display_at, pairs_at, dict_at, index_at, LambdaAt, lambda_at, cons_exprs_at}
+use Rattle.tree_view.specs.Places.{Node, count_at, name_end, params_at, text_node_at}
+use Rattle.tree_view.specs.ExprAt.{expr_at, exprs_at, ExprReads, ExprsRead, unary_of, binary_of, var_at, string_at, unary_at, second_at}
+use Rattle.tree_view.specs.ExprAt.{binary_at, list_at, call_at, attribute_at, display_at, pairs_at, dict_at, index_at, LambdaAt, lambda_at, cons_exprs_at}
 use Rattle.state.specs.State.{slots_from, slot_names, Slots}
 use Rattle.slots.specs.Held.{CapturesAt}
 use Rattle.slots.proofs.Adding.{first-length, name-bytes}
 use Rattle.state.specs.Words.{name_at}
 use Rattle.definitions.specs.Parse.{parse_expr}
 use Rattle.definitions.proofs.Begins.{le-or-gt}
-use Rattle.parts.proofs.LeafNodes.{params-after}
+use Rattle.tree_view.proofs.LeafNodes.{params-after}
 use Rattle.measure.proofs.Ahead.{node-after}
-use Rattle.exprs.proofs.ExprLaws.{steady-E}
-use Rattle.exprs.proofs.ExprViews.{expr-within, binary-of, and-of, or-of, view-string, view-var, view-unary, view-binary, view-call, view-attribute, view-dict, view-index, view-lambda, view-exprs-none, view-exprs-more}
+use Rattle.tree_view.proofs.ExprLaws.{steady-E}
+use Rattle.tree_view.proofs.ExprViews.{expr-within, binary-of, and-of, or-of, view-string, view-var, view-unary, view-binary, view-call, view-attribute, view-dict, view-index, view-lambda, view-exprs-none, view-exprs-more}
 use Rattle.slots.proofs.Skipping.{plain_done, number-done}
-use Rattle.exprs.proofs.Operators.{unary-each}
-use Rattle.exprs.proofs.OtherForms.{other-form}
+use Rattle.tree_view.proofs.Operators.{unary-each}
+use Rattle.tree_view.proofs.OtherForms.{other-form}
 use Rattle.slots.proofs.Kinded.{seen-literal, seen-display, form-var, form-attribute, form-tuple, form-index}
 use Rattle.measure.specs.declared.Measure.{Measure}
 use Rattle.measure.specs.Sized.{call_more, binary_more, Sized}

@@ -2,7 +2,7 @@
 ghost use Rattle.std.specs.Prelude.{◌≡◌};
 ghost use Rattle.definitions.specs.Tree.{view};
 ghost use Rattle.definitions.specs.Measured.{direct};
-ghost use Rattle.exprs.specs.ExprAt.{expr_at, ExprReads};
+ghost use Rattle.tree_view.specs.ExprAt.{expr_at, ExprReads};
 ghost use Rattle.state.specs.Words.{name_at};
 ghost use Rattle.measure.specs.Known.{holds_function, known};
 ghost use Rattle.measure.specs.Sized.{call_more};

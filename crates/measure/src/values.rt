@@ -3,8 +3,8 @@ ghost use Rattle.std.specs.Prelude.{◌≡◌, ◌+◌, ◌*◌, ◌≤◌, ◌<
 ghost use Rattle.definitions.specs.Tree.{view};
 ghost use Rattle.definitions.specs.Slots.{captures};
 ghost use Rattle.definitions.specs.Measured.{measure_expr, measure_exprs};
-ghost use Rattle.parts.specs.Places.{name_end, params_at};
-ghost use Rattle.exprs.specs.ExprAt.{expr_at, exprs_at, ExprReads, ExprsRead, TwoAt, second_at, CallAt, ListAt, list_at, DictAt, pairs_at, AttributeAt, LambdaAt};
+ghost use Rattle.tree_view.specs.Places.{name_end, params_at};
+ghost use Rattle.tree_view.specs.ExprAt.{expr_at, exprs_at, ExprReads, ExprsRead, TwoAt, second_at, CallAt, ListAt, list_at, DictAt, pairs_at, AttributeAt, LambdaAt};
 ghost use Rattle.measure.specs.Known.{known, names_in};
 ghost use Rattle.measure.specs.Sized.{Sized, call_more, binary_more};
 
@@ -13,10 +13,10 @@ use crate::measurer::Measurer;
 use numerals::kinds::ExprKind;
 use numerals::operators;
 use numerals::sizes::SLOTS_ROOM;
-use parts::names::name_end;
-use parts::numbers::u16_at;
 use slots::captures::collect_free_vars;
 use slots::skip::{skip_expr, skip_params};
+use tree_view::names::name_end;
+use tree_view::numbers::u16_at;
 
 // What a binary operator adds to its operands: its instruction; `and` and `or` a question, a jump and a constant.
 fn binary_more(operator: u8) -> u32

@@ -3,7 +3,7 @@ use Prim.Native.Nat.{ℕ, ◌+◌}
 use mathlib.Core.Path.{◌≡◌, sym, subst}
 use Rattle.definitions.specs.Tree.{view}
 use Rattle.definitions.specs.Measured.{SoFar, measure_expr, measure_assign}
-use Rattle.exprs.specs.ExprAt.{expr_at, second_at, ExprReads, TwoAt}
+use Rattle.tree_view.specs.ExprAt.{expr_at, second_at, ExprReads, TwoAt}
 use Rattle.state.specs.State.{slot_names}
 use Rattle.state.specs.declared.Scope.{Scope}
 use Rattle.measure.specs.declared.measurer.Measurer.{Measurer}

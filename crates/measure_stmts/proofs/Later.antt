@@ -7,12 +7,12 @@ use lib.ListN.{get_or}
 use Rattle.definitions.specs.Bytes.{Parser, unread}
 use Rattle.definitions.specs.Tree.{none_l, Display, list_d, tuple_d, set_d, tree_set_d, Expr, lit}
 use Rattle.definitions.specs.Parse.{by_kind, display_of, unary_kinds, binary_kinds, expr_kinds, parse_expr}
-use Rattle.parts.specs.Places.{Node, node_at, Reads}
-use Rattle.parts.proofs.Laws.{Steady, steady-bind, steady-give, steady-unread, steady-field, steady-text, steady-name, steady-params, steady-choice, AllSteady, none, more}
-use Rattle.parts.proofs.Nodes.{goes-kind}
-use Rattle.exprs.specs.ExprAt.{expr_at, ExprReads}
-use Rattle.exprs.proofs.ExprLaws.{steady-E, steady-exprs, deep-E}
-use Rattle.exprs.proofs.ExprViews.{expr-deep}
+use Rattle.tree_view.specs.Places.{Node, node_at, Reads}
+use Rattle.tree_view.proofs.Laws.{Steady, steady-bind, steady-give, steady-unread, steady-field, steady-text, steady-name, steady-params, steady-choice, AllSteady, none, more}
+use Rattle.tree_view.proofs.Nodes.{goes-kind}
+use Rattle.tree_view.specs.ExprAt.{expr_at, ExprReads}
+use Rattle.tree_view.proofs.ExprLaws.{steady-E, steady-exprs, deep-E}
+use Rattle.tree_view.proofs.ExprViews.{expr-deep}
 use Rattle.measure.proofs.Ahead.{node-after}
 
 steady-one : {A : Type 0} {ps : List (Parser A)} → AllSteady ps → (k : ℕ) → Steady (get_or ps k unread)

@@ -10,14 +10,14 @@ use Rattle.definitions.specs.Parse.{parse_expr, attribute}
 use Rattle.definitions.specs.Tree.{Block, Branches, Methods}
 use Rattle.definitions.specs.Measured.{SoFar, add_function, add_class, measure_expr, measure_stmt, measure_block, measure_branches}
 use Rattle.definitions.specs.Measured.{after_stmt, after_block, after_branches, after_methods}
-use Rattle.parts.specs.Places.{Node, count_at, name_end, params_at}
-use Rattle.parts.proofs.Laws.{steady-list_of}
-use Rattle.exprs.specs.ExprAt.{expr_at}
-use Rattle.exprs.proofs.ExprLaws.{steady-E}
-use Rattle.tree.specs.StmtAt.{stmt_at, block_at, stmts_at, branches_at, methods_at, StmtReads, BlockReads, StmtsRead, BranchesRead, MethodsRead, BranchAt, body_at}
-use Rattle.tree.specs.StmtAt.{DefAt, def_block_at, ClassAt, class_methods_at, class_at, when_at, else_at, cons_at, method_at}
-use Rattle.tree.proofs.StmtLaws.{steady-attribute}
-use Rattle.tree.proofs.StmtViews.{view-block, view-stmts-none, view-stmts-more, view-branches-more, else-known, view-done, view-else, view-methods-none, view-methods-more, branches-within}
+use Rattle.tree_view.specs.Places.{Node, count_at, name_end, params_at}
+use Rattle.tree_view.proofs.Laws.{steady-list_of}
+use Rattle.tree_view.specs.ExprAt.{expr_at}
+use Rattle.tree_view.proofs.ExprLaws.{steady-E}
+use Rattle.tree_view.specs.StmtAt.{stmt_at, block_at, stmts_at, branches_at, methods_at, StmtReads, BlockReads, StmtsRead, BranchesRead, MethodsRead, BranchAt, body_at}
+use Rattle.tree_view.specs.StmtAt.{DefAt, def_block_at, ClassAt, class_methods_at, class_at, when_at, else_at, cons_at, method_at}
+use Rattle.tree_view.proofs.StmtLaws.{steady-attribute}
+use Rattle.tree_view.proofs.StmtViews.{view-block, view-stmts-none, view-stmts-more, view-branches-more, else-known, view-done, view-else, view-methods-none, view-methods-more, branches-within}
 use Rattle.state.specs.Words.{name_at}
 use Rattle.slots.proofs.Adding.{name-bytes}
 use Rattle.measure.specs.declared.measurer.Measurer.{Measurer}
@@ -25,7 +25,7 @@ use Rattle.measure.specs.declared.Measure.{Measure}
 use Rattle.measure.specs.Known.{names_in}
 use Rattle.measure.specs.Sized.{Sized}
 use Rattle.measure.proofs.Ahead.{node-after}
-use Rattle.parts.proofs.LeafNodes.{params-after, name-after}
+use Rattle.tree_view.proofs.LeafNodes.{params-after, name-after}
 use Rattle.measure_stmts.specs.declared.begun.Begun.{Begun}
 use Rattle.measure_stmts.specs.Heads.{heads_stmt, heads_block, heads_branches, heads_methods}
 use Rattle.measure_stmts.specs.Walked.{seen, Notes, PartMeasured}

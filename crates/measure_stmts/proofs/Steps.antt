@@ -4,7 +4,7 @@ use mathlib.Core.Path.{◌≡◌, refl, sym, ap, ◌∙◌, subst}
 use native.Mathlib.Omega.{arith}
 use Rattle.std.specs.Prelude.{Option, Some, None}
 use Rattle.definitions.specs.Measured.{SoFar}
-use Rattle.parts.specs.Places.{Node}
+use Rattle.tree_view.specs.Places.{Node}
 use Rattle.measure.specs.declared.measurer.Measurer.{Measurer}
 use Rattle.measure.specs.declared.Measure.{Measure}
 use Rattle.measure.specs.Sized.{Sized}

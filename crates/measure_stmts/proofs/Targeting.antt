@@ -12,14 +12,14 @@ use Rattle.definitions.specs.Wellformed.{is_tuple}
 use Rattle.definitions.specs.Tree.{list_d, tuple_d, dict_d, set_d, tree_set_d, Expr, lit, var, unary, binary, logical, call, attr, display, index, lambda, Exprs}
 use Rattle.definitions.specs.Tree.{View, as_var, as_attr, as_index, as_tuple, as_other, view, view_display}
 use Rattle.definitions.specs.Measured.{SoFar, measure_expr, measure_copy, measure_target, measure_unpack, measure_assign}
-use Rattle.parts.specs.Places.{Node, count_at, name_end}
-use Rattle.exprs.specs.ExprAt.{expr_at, exprs_at, ExprReads, ExprsRead, TwoAt, second_at, ListAt, list_at, cons_exprs_at, var_at, attribute_at, display_at, index_at}
-use Rattle.exprs.proofs.ExprViews.{expr-within, view-var, view-attribute, view-tuple, view-index, view-exprs-none, view-exprs-more}
-use Rattle.exprs.proofs.OtherForms.{other-form}
+use Rattle.tree_view.specs.Places.{Node, count_at, name_end}
+use Rattle.tree_view.specs.ExprAt.{expr_at, exprs_at, ExprReads, ExprsRead, TwoAt, second_at, ListAt, list_at, cons_exprs_at, var_at, attribute_at, display_at, index_at}
+use Rattle.tree_view.proofs.ExprViews.{expr-within, view-var, view-attribute, view-tuple, view-index, view-exprs-none, view-exprs-more}
+use Rattle.tree_view.proofs.OtherForms.{other-form}
 use Rattle.slots.proofs.Kinded.{form-var, form-attribute, form-tuple, form-index}
 use Rattle.measure.specs.declared.Measure.{Measure}
 use Rattle.measure.specs.Sized.{Sized}
-use Rattle.parts.proofs.LeafNodes.{name-after}
+use Rattle.tree_view.proofs.LeafNodes.{name-after}
 use Rattle.measure.proofs.Measuring.{expr-ahead}
 use Rattle.measure_stmts.proofs.Later.{expr-later}
 

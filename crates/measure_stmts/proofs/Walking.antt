@@ -14,14 +14,14 @@ use Rattle.definitions.specs.Measured.{after_stmt, after_block, after_branches, 
 use Rattle.numerals.specs.Kinds.{stmt_byte}
 use Rattle.numerals.specs.declared.kinds.StmtKind.{StmtKind}
 use Rattle.numerals.specs.declared.kinds.StmtKind.TheVariants.{Break, Continue, Pass, Expr, Return, Assign, If, While, For, Def, Class}
-use Rattle.parts.specs.Places.{Node, count_at, name_end}
-use Rattle.parts.proofs.Nodes.{Seen, node-within}
-use Rattle.tree.proofs.StmtLaws.{steady-B}
-use Rattle.exprs.specs.ExprAt.{expr_at, ExprReads, second_at, TwoAt}
-use Rattle.tree.specs.StmtAt.{stmt_at, block_at, branches_at, StmtReads, BlockReads, BranchesRead, BranchAt, body_at, IfAt, elifs_at, ForAt}
-use Rattle.tree.specs.StmtAt.{DefAt, def_block_at, ClassAt, class_methods_at}
-use Rattle.tree.specs.StmtAt.{expr_stmt_at, return_at, assign_at, if_at, while_at, for_at, def_at, class_at}
-use Rattle.tree.proofs.StmtViews.{view-break, view-continue, view-pass, view-expr, view-return, view-assign, view-if, view-while, view-for, view-def, view-class, branches-within}
+use Rattle.tree_view.specs.Places.{Node, count_at, name_end}
+use Rattle.tree_view.proofs.Nodes.{Seen, node-within}
+use Rattle.tree_view.proofs.StmtLaws.{steady-B}
+use Rattle.tree_view.specs.ExprAt.{expr_at, ExprReads, second_at, TwoAt}
+use Rattle.tree_view.specs.StmtAt.{stmt_at, block_at, branches_at, StmtReads, BlockReads, BranchesRead, BranchAt, body_at, IfAt, elifs_at, ForAt}
+use Rattle.tree_view.specs.StmtAt.{DefAt, def_block_at, ClassAt, class_methods_at}
+use Rattle.tree_view.specs.StmtAt.{expr_stmt_at, return_at, assign_at, if_at, while_at, for_at, def_at, class_at}
+use Rattle.tree_view.proofs.StmtViews.{view-break, view-continue, view-pass, view-expr, view-return, view-assign, view-if, view-while, view-for, view-def, view-class, branches-within}
 use Rattle.state.specs.Words.{name_at}
 use Rattle.state.specs.State.{slot_names}
 use Rattle.slots.proofs.Adding.{name-bytes}

@@ -2,10 +2,10 @@
 ghost use Rattle.std.specs.Prelude.{◌≡◌, ◌+◌};
 ghost use Rattle.definitions.specs.Measured.{measure_expr, measure_for, measure_stmt, measure_block, measure_branches};
 ghost use Rattle.definitions.specs.Measured.{add_function, add_class, after_stmt, after_block, after_branches, after_methods};
-ghost use Rattle.parts.specs.Places.{name_end};
-ghost use Rattle.exprs.specs.ExprAt.{expr_at};
-ghost use Rattle.tree.specs.StmtAt.{stmt_at, StmtReads, block_at, BlockReads, branches_at, BranchesRead, methods_at, MethodsRead};
-ghost use Rattle.tree.specs.StmtAt.{BranchAt, body_at, IfAt, elifs_at, ForAt, DefAt, def_block_at, ClassAt, class_methods_at, class_at};
+ghost use Rattle.tree_view.specs.Places.{name_end};
+ghost use Rattle.tree_view.specs.ExprAt.{expr_at};
+ghost use Rattle.tree_view.specs.StmtAt.{stmt_at, StmtReads, block_at, BlockReads, branches_at, BranchesRead, methods_at, MethodsRead};
+ghost use Rattle.tree_view.specs.StmtAt.{BranchAt, body_at, IfAt, elifs_at, ForAt, DefAt, def_block_at, ClassAt, class_methods_at, class_at};
 ghost use Rattle.state.specs.Words.{name_at};
 ghost use Rattle.measure.specs.Known.{names_in};
 ghost use Rattle.measure_stmts.specs.Heads.{heads_stmt, heads_block, heads_branches, heads_methods};
@@ -17,9 +17,9 @@ use crate::targets::measure_assign;
 use measure::Measure;
 use measure::measurer::Measurer;
 use numerals::kinds::StmtKind;
-use parts::names::name_end;
-use parts::numbers::u16_at;
 use slots::skip::{skip_params, skip_stmt};
+use tree_view::names::name_end;
+use tree_view::numbers::u16_at;
 
 // What a condition and a block have beside them: the question that passes the block, and the jump after it.
 const BRANCH_MORE: u32 = 2;

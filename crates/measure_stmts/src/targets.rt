@@ -2,16 +2,16 @@
 ghost use Rattle.std.specs.Prelude.{◌+◌, ◌≤◌, length};
 ghost use Rattle.definitions.specs.Tree.{view};
 ghost use Rattle.definitions.specs.Measured.{measure_expr, measure_target, measure_unpack, measure_assign};
-ghost use Rattle.exprs.specs.ExprAt.{expr_at, ExprReads, TwoAt, second_at, ListAt, list_at};
+ghost use Rattle.tree_view.specs.ExprAt.{expr_at, ExprReads, TwoAt, second_at, ListAt, list_at};
 ghost use Rattle.measure.specs.Known.{known, names_in};
 ghost use Rattle.measure.specs.Sized.{Sized};
 
 use measure::Measure;
 use measure::measurer::Measurer;
 use numerals::kinds::ExprKind;
-use parts::names::name_end;
-use parts::numbers::u16_at;
 use slots::skip::skip_expr;
+use tree_view::names::name_end;
+use tree_view::numbers::u16_at;
 
 // An element of a tuple target: a store, or the elements of a tuple.
 #[cycle(measure_targets)]

@@ -96,7 +96,8 @@ impl Listed for Constants<'_> {
     }
 
     // The same at every place.
-    fn size_at(&self, _i: usize) -> usize {
+    fn size_at(&self, i: usize) -> usize {
+        let _ = i;
         2
     }
 

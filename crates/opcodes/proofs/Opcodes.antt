@@ -8,7 +8,7 @@ use Rattle.definitions.specs.Tree.{add_op, binary_number}
 use Rattle.definitions.specs.Instruction.{unary_code, operator_code, binary_code, build_code}
 use Rattle.numerals.specs.Kinds.{expr_byte}
 use Rattle.numerals.specs.declared.kinds.ExprKind.{ExprKind}
-use Rattle.exprs.specs.ExprAt.{unary_ops, binary_ops}
+use Rattle.tree_view.specs.ExprAt.{unary_ops, binary_ops}
 use Rattle.lower_emit.specs.Ops.{Plain}
 use Rattle.lower_emit.proofs.Packing.{plain-below}
 use Rattle.opcodes.specs.Codes.{unary_opcode, display_by_kind, held_of}

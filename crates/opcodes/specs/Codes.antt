@@ -2,7 +2,7 @@
 use Rattle.std.specs.Prelude.{ℕ, ◌*◌, ◌-◌, true, false, [], ◌∷◌, get_or, eqb}
 use Rattle.definitions.specs.Tree.{Display, list_d, tuple_d, dict_d, set_d, tree_set_d, not_op}
 use Rattle.definitions.specs.Instruction.{unary_code}
-use Rattle.exprs.specs.ExprAt.{unary_ops}
+use Rattle.tree_view.specs.ExprAt.{unary_ops}
 
 -- the opcode of a unary operator's byte; of a binary one it is `operator_code`
 unfoldable pub unary_opcode : ℕ → ℕ

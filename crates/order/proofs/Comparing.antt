@@ -18,7 +18,7 @@ use Rattle.definitions.specs.Order.{compare_bytes, order}
 use Rattle.definitions.proofs.ByteOrder.{compare_same}
 use Rattle.definitions.proofs.Taken.{length-housed}
 use Rattle.definitions.proofs.TreeWritten.{tree_is, rest-shorter}
-use Rattle.tree.specs.StmtAt.{block_at, TreeAt}
+use Rattle.tree_view.specs.StmtAt.{block_at, TreeAt}
 use Rattle.settle.proofs.Outcome.{check-gives}
 use Rattle.instep.specs.Stepping.{Differs, Lower, lower, higher, SideBySide}
 use Rattle.instep.specs.declared.Spot.{Spot}

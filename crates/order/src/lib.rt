@@ -3,7 +3,7 @@
 
 ghost use Rattle.std.specs.Prelude.{◌≡◌, ◌≤◌, length};
 ghost use Rattle.definitions.specs.Order as Order;
-ghost use Rattle.tree.specs.StmtAt.{block_at, TreeAt};
+ghost use Rattle.tree_view.specs.StmtAt.{block_at, TreeAt};
 ghost use Rattle.state.specs.State.{limits_of, Limited};
 ghost use Rattle.limits.specs.Sets.{limits_for};
 ghost use Rattle.order.specs.Ordered.{place, order_said, Sorts};
@@ -15,6 +15,7 @@ use numerals::sizes::{AREA, DEPTH, HEAD};
 use questions::Question;
 use rests::rest_size;
 use settle::accept;
+use state::Limits as LimitNumbers;
 use std::cmp::Ordering;
 
 // The rests of two accepted trees: the counts of their bytes, which the headers hold, then the blocks in step.
@@ -46,7 +47,7 @@ fn order_in(
     second: &[u8],
     code: &mut [u32],
     tables: &mut [u32],
-    limits: state::Limits,
+    limits: LimitNumbers,
 ) -> Result<Ordering, Question>
     requires { (16384 ≤ length code.old) × (16384 ≤ length tables.old) × Limited limits }
     ensures { order_said result ≡ Order.order_answer (limits_of limits) (length code.old) (length tables.old) first.now second.now }

@@ -12,11 +12,11 @@ use lib.Seq.{get_or-set_same, get_or-set_other}
 use borrow.Author.Tests.{eq-eqb, ne_eqb}
 use Rattle.definitions.specs.Bytes.{Name, same, member, all}
 use Rattle.definitions.specs.Wellformed.{distinct}
-use Rattle.parts.specs.Places.{name_from, name_end, There, names_from, names_end, AllThere}
+use Rattle.tree_view.specs.Places.{name_from, name_end, There, names_from, names_end, AllThere}
 use Rattle.parts.specs.Search.{turn_of, position_below, reach, Entry, NameMet, Searches, PutsName}
 use Rattle.parts.specs.declared.distinct.Put.{Put}
 use Rattle.parts.specs.declared.distinct.Put.TheVariants.{Twice, New}
-use Rattle.parts.proofs.NameLaws.{there-first, there-rest, from_more, from-none}
+use Rattle.tree_view.proofs.NameLaws.{there-first, there-rest, from_more, from-none}
 use Rattle.definitions.proofs.Begins.{le-or-gt}
 use Rattle.definitions.proofs.Captured.{member-cons, member-nil, same_refl}
 use Rattle.definitions.proofs.MethodOrder.{same-eq}

@@ -16,18 +16,18 @@ use Rattle.definitions.specs.Wellformed.{if_asked, is_name, is_iterator, distinc
 use Rattle.questions.specs.declared.Question.{Question}
 use Rattle.questions.specs.declared.Question.TheVariants.{TreeLayout}
 use Rattle.questions.specs.Numbers.{number}
-use Rattle.parts.specs.Judge.{Passed, Next, Is, Placed, here, later, least, judged, then_judge, with_number, judged_number_at, operator_at, guarded, unasked}
-use Rattle.parts.specs.Judge.{ask_text, judge_operator, judge_name, judge_names, judge_params, judge_head, suited, fits_role, filled, tuple_fits_role}
+use Rattle.tree_view.specs.Judge.{Passed, Next, Is, Placed, here, later, least, judged, then_judge, with_number, judged_number_at, operator_at, guarded, unasked}
+use Rattle.tree_view.specs.Judge.{ask_text, judge_operator, judge_name, judge_names, judge_params, judge_head, suited, fits_role, filled, tuple_fits_role}
 use Rattle.parts.specs.Asked.{number_asked, question_place, stand}
 use Rattle.parts.specs.Judged.{passed_by, Judged, counted_by, ReadsCount, CheckerWent, CheckerShort, ReadsByte, StandChanged, answered, Rules, SettlesAtEnd}
-use Rattle.parts.specs.Places.{count_at, CountThere, name_from, There, names_from, AllThere}
+use Rattle.tree_view.specs.Places.{count_at, CountThere, name_from, There, names_from, AllThere}
 use Rattle.parts.specs.declared.asked.BlockQuestion.{BlockQuestion}
 use Rattle.parts.specs.declared.asked.BlockQuestion.TheVariants.{Names, IteratorNames, Strings, Loops, Targets, EmptyTargets, Parameters, Init, ListLengths}
 use Rattle.parts.specs.declared.checker.Checker.{Checker}
-use Rattle.parts.specs.declared.roles.Role.{Role}
-use Rattle.parts.proofs.Laws.{then_next, then-refused, with-number, with-unread}
-use Rattle.parts.proofs.LeafLaws.{noted-yes, noted-low, noted-no, eight-short, eight-long, number_short, number-long, operator-end, guard-yes, guard-no, name-at-none, name-at-short, name-whole, text-unread, text-short, text-whole}
-use Rattle.parts.proofs.NameLaws.{params-law, params-close, name-at-is, names-there, names-none, names_more, head-close}
+use Rattle.tree_view.specs.declared.roles.Role.{Role}
+use Rattle.tree_view.proofs.Laws.{then_next, then-refused, with-number, with-unread}
+use Rattle.tree_view.proofs.LeafLaws.{noted-yes, noted-low, noted-no, eight-short, eight-long, number_short, number-long, operator-end, guard-yes, guard-no, name-at-none, name-at-short, name-whole, text-unread, text-short, text-whole}
+use Rattle.tree_view.proofs.NameLaws.{params-law, params-close, name-at-is, names-there, names-none, names_more, head-close}
 use Rattle.definitions.proofs.Begins.{le-or-gt}
 
 -- ---- part after part

@@ -6,7 +6,7 @@ use Rattle.definitions.specs.Wellformed.{if_asked, block_questions}
 use Rattle.questions.specs.declared.Question.{Question}
 use Rattle.questions.specs.declared.Question.TheVariants.{TreeLayout}
 use Rattle.questions.specs.Numbers.{number}
-use Rattle.parts.specs.Judge.{Passed, Next, Refused, Number, Is, Unread, least, judged_number_at}
+use Rattle.tree_view.specs.Judge.{Passed, Next, Refused, Number, Is, Unread, least, judged_number_at}
 use Rattle.parts.specs.Asked.{number_asked, stand}
 use Rattle.parts.specs.declared.checker.Checker.{Checker}
 use Rattle.parts.specs.declared.asked.BlockQuestion.{BlockQuestion}

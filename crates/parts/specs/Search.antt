@@ -2,7 +2,7 @@
 -- depth. An entry is a name's position, 0 for none. Names of one byte or more share no slot; where two share one, a search is longer, no less right.
 use Rattle.std.specs.Prelude.{ℕ, zero, suc, ◌+◌, ◌/◌, ◌%◌, ◌^◌, ◌<◌, ◌≡◌, true, false, List, [], ◌∷◌, ◌++◌, eqb, length, get_or}
 use Rattle.definitions.specs.Bytes.{Name, member}
-use Rattle.parts.specs.Places.{name_from, There}
+use Rattle.tree_view.specs.Places.{name_from, There}
 use Rattle.parts.specs.declared.distinct.Put.{Put}
 use Rattle.parts.specs.declared.distinct.Put.TheVariants.{Twice, New, Lost}
 

@@ -2,9 +2,10 @@
 ghost use Rattle.std.specs.Prelude.{◌≤◌, length};
 
 use crate::asked::{BlockQuestion, QUESTIONS};
-use crate::numbers::{operator_at, u16_at};
-use crate::roles::Role;
+use crate::operators::operator_at;
 use questions::Question;
+use tree_view::numbers::u16_at;
+use tree_view::roles::Role;
 
 // Where in a tree the checking stands, and the first question that is answered no.
 #[derive(Drop)]
@@ -19,7 +20,7 @@ impl<'a> Checker<'a> {
     ghost use Rattle.std.specs.Prelude.{◌≡◌, take, drop, MatchResult, IfOk};
     ghost use Rattle.definitions.specs.Bytes.{field};
     ghost use Rattle.parts.specs.Asked.{stand};
-    ghost use Rattle.parts.specs.Judge.{judged, unasked, judge_operator, suited, filled};
+    ghost use Rattle.tree_view.specs.Judge.{judged, unasked, judge_operator, suited, filled};
     ghost use Rattle.parts.specs.Judged.{Starts, ReadsByte, Judged, ReadsCount, CheckerWent, CheckerShort, SkipsBelow, StandChanged, answered, Rules, SettlesAtEnd};
 
     // From a place on, with no question answered no.

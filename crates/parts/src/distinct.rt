@@ -4,11 +4,11 @@ ghost use Rattle.std.specs.Prelude.{◌≡◌, ◌≤◌, ◌<◌, length};
 ghost use Rattle.definitions.specs.Bytes.{member};
 ghost use Rattle.definitions.specs.Wellformed.{distinct};
 ghost use Rattle.parts.specs.Search.{turn_of, Searches, PutsName};
-ghost use Rattle.parts.specs.Places.{name_from, names_from, There, AllThere};
+ghost use Rattle.tree_view.specs.Places.{name_from, names_from, There, AllThere};
 
-use crate::names::{name_end, name_part};
 use byte_tests::same_bytes;
 use numerals::sizes::TREE_MOST;
+use tree_view::names::{name_end, name_part};
 
 // So many names are compared each with each.
 const FEW: u32 = 32;

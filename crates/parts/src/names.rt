@@ -1,9 +1,7 @@
 // Names: a length byte and its bytes (7, 33).
-// There is said of the place that a call names, so no struct keeps it.
-ghost use Rattle.std.specs.Prelude.{◌≡◌, ◌+◌, ◌&&◌, ltb, length};
+ghost use Rattle.std.specs.Prelude.{◌≡◌, ◌&&◌, ltb, length};
 ghost use Rattle.definitions.specs.Bytes.{all};
 ghost use Rattle.definitions.specs.Wellformed.{digit, is_iterator};
-ghost use Rattle.parts.specs.Places.{name_from, name_end, There};
 
 use crate::asked::BlockQuestion;
 use crate::checker::Checker;
@@ -32,7 +30,7 @@ fn is_iterator(bytes: &[u8]) -> bool
 }
 
 impl<'a> Checker<'a> {
-    ghost use Rattle.parts.specs.Judge.{judge_name};
+    ghost use Rattle.tree_view.specs.Judge.{judge_name};
     ghost use Rattle.parts.specs.Judged.{Judged};
 
     // A name.
@@ -45,23 +43,4 @@ impl<'a> Checker<'a> {
         self.note(BlockQuestion::Names, is_name(name));
         Ok(())
     }
-}
-
-// The bytes of the name at `at`.
-pub fn name_part<'a>(tree: &'a [u8], at: usize) -> &'a [u8]
-    requires { There tree.now at }
-    ensures result_value { result.now ≡ name_from tree.now at }
-    ensures begins { (result.ref_ptr.0 ≡ tree.entry.ref_ptr.0) × (result.ref_ptr.1 ≡ tree.entry.ref_ptr.1 + (at + 1)) }
-{
-    let from = at + 1;
-    let end = from + tree[at] as usize;
-    &tree[from..end]
-}
-
-// Where the name at `at` ends.
-pub fn name_end(tree: &[u8], at: usize) -> usize
-    requires { There tree.now at }
-    ensures { result ≡ name_end tree.now at }
-{
-    at + 1 + tree[at] as usize
 }

@@ -6,9 +6,9 @@ ghost use Rattle.definitions.specs.Wellformed.{init};
 use crate::asked::BlockQuestion;
 use crate::checker::Checker;
 use crate::distinct::distinct_names;
-use crate::names::name_part;
-use crate::numbers::u16_at;
 use questions::Question;
+use tree_view::names::name_part;
+use tree_view::numbers::u16_at;
 
 // How many names or arguments a list may have (13).
 pub const LIST_MOST: u32 = 255;
@@ -21,7 +21,7 @@ fn may_have(name: &[u8], n: u32) -> bool
 }
 
 impl<'a> Checker<'a> {
-    ghost use Rattle.parts.specs.Judge.{judge_names, judge_params, judge_head};
+    ghost use Rattle.tree_view.specs.Judge.{judge_names, judge_params, judge_head};
     ghost use Rattle.parts.specs.Judged.{Judged};
 
     // n names.

@@ -6,7 +6,7 @@ use utf8::is_utf8;
 
 impl<'a> Checker<'a> {
     ghost use Rattle.definitions.specs.Bytes.{text};
-    ghost use Rattle.parts.specs.Judge.{judged, ask_text};
+    ghost use Rattle.tree_view.specs.Judge.{judged, ask_text};
     ghost use Rattle.parts.specs.Judged.{Judged};
 
     // A string's count and bytes.

@@ -9,20 +9,20 @@ use digits::decimal_of;
 use input::{arg, read_full};
 use report::Hex;
 use std::env::FillError;
-use std::io;
+use std::io::Result as IoResult;
 use std::rt::Env;
 
 // The bytes of the number of an argument, at the most.
 const DIGITS: usize = 20;
 
 // A constant: its number, its class and the type number of the class's object.
-fn constant(rt: &impl Print, k: usize, class: u16) -> io::Result<()> {
+fn constant(rt: &impl Print, k: usize, class: u16) -> IoResult<()> {
     let number = Class::type_number(class);
     println!(rt; "constant {k}: class {class}, type {number}")
 }
 
 // The constants: two bytes each, after two bytes with their count.
-fn constants(rt: &impl Print, list: &[u8]) -> io::Result<()> {
+fn constants(rt: &impl Print, list: &[u8]) -> IoResult<()> {
     for (k, class) in list.chunks_exact(2).skip(1).enumerate() {
         constant(rt, k, u16::from_be_bytes([class[0], class[1]]))?;
     }
@@ -30,7 +30,7 @@ fn constants(rt: &impl Print, list: &[u8]) -> io::Result<()> {
 }
 
 // The answer to a module, and whether it is accepted.
-fn answer(rt: &impl Print, module: &[u8]) -> io::Result<bool> {
+fn answer(rt: &impl Print, module: &[u8]) -> IoResult<bool> {
     match reader::read_module(module) {
         Ok(sections) => {
             rt.println("accepted")?;
@@ -45,7 +45,7 @@ fn answer(rt: &impl Print, module: &[u8]) -> io::Result<bool> {
 }
 
 // The code of the function f.
-fn code(rt: &impl Print, module: &[u8], f: u64) -> io::Result<()> {
+fn code(rt: &impl Print, module: &[u8], f: u64) -> IoResult<()> {
     match reader::check_code(module, f) {
         Ok(()) => println!(rt; "code: {}", Hex(reader::function_code(module, f))),
         Err(q) => println!(rt; "refused {q}"),
@@ -53,7 +53,7 @@ fn code(rt: &impl Print, module: &[u8], f: u64) -> io::Result<()> {
 }
 
 // The code of the function that the argument names, if there is one.
-fn code_of_argument<R: Env + Print + Eprint>(rt: &R, module: &[u8]) -> io::Result<()> {
+fn code_of_argument<R: Env + Print + Eprint>(rt: &R, module: &[u8]) -> IoResult<()> {
     let mut word = [0; DIGITS];
     let number = match arg(rt, 1, &mut word) {
         Err(FillError::NotPresent) => return Ok(()),
@@ -66,7 +66,7 @@ fn code_of_argument<R: Env + Print + Eprint>(rt: &R, module: &[u8]) -> io::Resul
     }
 }
 
-fn read<R: Env + Print + Eprint>(rt: &R, module: &[u8]) -> io::Result<()> {
+fn read<R: Env + Print + Eprint>(rt: &R, module: &[u8]) -> IoResult<()> {
     if answer(rt, module)? {
         code_of_argument(rt, module)?;
     }
@@ -80,7 +80,7 @@ fn module_buffer() -> [u8; 524289]
     [0; 524289]
 }
 
-fn main(rt: HostRuntime) -> io::Result<()> {
+fn main(rt: HostRuntime) -> IoResult<()> {
     let mut module = module_buffer();
     read(&rt, read_full(&mut rt.stdin(), &mut module))
 }

@@ -11,9 +11,9 @@ use lib.Pow.{are_bytes}
 use Rattle.definitions.specs.Bytes.{got, Parser}
 use Rattle.definitions.proofs.Truth.{right}
 use Rattle.definitions.proofs.Writes.{Wrote, Writes}
-use Rattle.parts.specs.Places.{node_at, Reads}
-use Rattle.parts.proofs.Laws.{Steady}
-use Rattle.parts.proofs.Nodes.{node-within, node-got}
+use Rattle.tree_view.specs.Places.{node_at, Reads}
+use Rattle.tree_view.proofs.Laws.{Steady}
+use Rattle.tree_view.proofs.Nodes.{node-within, node-got}
 use Rattle.rests.specs.Taking.{span}
 
 pub bytes_drop : (k : ℕ) (t : List ℕ) → are_bytes t ≡ true → are_bytes (drop k t) ≡ true

@@ -22,18 +22,18 @@ use Rattle.definitions.proofs.TreeWritten.{tree_written}
 use Rattle.numerals.specs.Kinds.{stmt_byte}
 use Rattle.numerals.specs.declared.kinds.StmtKind.{StmtKind}
 use Rattle.numerals.specs.declared.kinds.StmtKind.TheVariants.{Break, Continue, Expr, Return, Assign}
-use Rattle.parts.specs.Places.{Node, count_at, name_end, ParamsAt, params_at}
-use Rattle.parts.proofs.Nodes.{node-within}
-use Rattle.parts.proofs.LeafNodes.{name-after, params-after}
-use Rattle.exprs.specs.ExprAt.{expr_at, ExprReads}
-use Rattle.exprs.proofs.ExprLaws.{steady-E}
-use Rattle.tree.specs.StmtAt.{stmt_at, block_at, stmts_at, branches_at, methods_at, attributes_at, StmtReads, BlockReads, StmtsRead, BranchesRead, MethodsRead}
-use Rattle.tree.specs.StmtAt.{expr_stmt_at, return_at, assign_at, BranchAt, body_at, IfAt, elifs_at, if_at, while_at, ForAt, for_at, when_at}
-use Rattle.tree.specs.StmtAt.{else_at, DefAt, def_block_at, def_at, method_at, ClassAt, class_methods_at, class_at, cons_at, TreeAt}
-use Rattle.tree.proofs.StmtLaws.{steady-attribute, steady-S, steady-B}
-use Rattle.parts.proofs.Laws.{steady-list_of}
-use Rattle.tree.proofs.StmtViews.{view-break, view-continue, view-pass, view-expr, view-return, view-assign, view-if, view-while, view-for, view-def, view-class}
-use Rattle.tree.proofs.StmtViews.{view-block, view-stmts-none, view-stmts-more, view-branches-more, else-known, view-done, view-else, view-methods-none, view-methods-more}
+use Rattle.tree_view.specs.Places.{Node, count_at, name_end, ParamsAt, params_at}
+use Rattle.tree_view.proofs.Nodes.{node-within}
+use Rattle.tree_view.proofs.LeafNodes.{name-after, params-after}
+use Rattle.tree_view.specs.ExprAt.{expr_at, ExprReads}
+use Rattle.tree_view.proofs.ExprLaws.{steady-E}
+use Rattle.tree_view.specs.StmtAt.{stmt_at, block_at, stmts_at, branches_at, methods_at, attributes_at, StmtReads, BlockReads, StmtsRead, BranchesRead, MethodsRead}
+use Rattle.tree_view.specs.StmtAt.{expr_stmt_at, return_at, assign_at, BranchAt, body_at, IfAt, elifs_at, if_at, while_at, ForAt, for_at, when_at}
+use Rattle.tree_view.specs.StmtAt.{else_at, DefAt, def_block_at, def_at, method_at, ClassAt, class_methods_at, class_at, cons_at, TreeAt}
+use Rattle.tree_view.proofs.StmtLaws.{steady-attribute, steady-S, steady-B}
+use Rattle.tree_view.proofs.Laws.{steady-list_of}
+use Rattle.tree_view.proofs.StmtViews.{view-break, view-continue, view-pass, view-expr, view-return, view-assign, view-if, view-while, view-for, view-def, view-class}
+use Rattle.tree_view.proofs.StmtViews.{view-block, view-stmts-none, view-stmts-more, view-branches-more, else-known, view-done, view-else, view-methods-none, view-methods-more}
 use Rattle.rests.specs.Taking.{Takes}
 use Rattle.rests.specs.declared.Taken.{Taken}
 use Rattle.rests.proofs.Spans.{node-after, node-fact, node-length}

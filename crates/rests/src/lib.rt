@@ -5,15 +5,15 @@ ghost use Rattle.std.specs.Prelude.{◌≡◌, ◌+◌, true, length, get_or};
 ghost use Rattle.std.proofs.Math.Pow.{are_bytes};
 ghost use Rattle.definitions.specs.TreeBytes.{tree_bytes};
 ghost use Rattle.definitions.specs.Rests.{rest, taken_stmt, taken, taken_branches, taken_methods};
-ghost use Rattle.parts.specs.Places.{name_end};
-ghost use Rattle.tree.specs.StmtAt.{stmt_at, block_at, branches_at, methods_at, StmtReads, BlockReads, BranchesRead, MethodsRead, BranchAt, body_at, IfAt, elifs_at, ForAt, DefAt, def_block_at, TreeAt};
+ghost use Rattle.tree_view.specs.Places.{name_end};
+ghost use Rattle.tree_view.specs.StmtAt.{stmt_at, block_at, branches_at, methods_at, StmtReads, BlockReads, BranchesRead, MethodsRead, BranchAt, body_at, IfAt, elifs_at, ForAt, DefAt, def_block_at, TreeAt};
 ghost use Rattle.rests.specs.Taking.{Takes};
 
 use numerals::kinds::StmtKind;
 use numerals::sizes::{DEPTH, HEAD};
-use parts::names::name_end;
-use parts::numbers::u16_at;
 use slots::skip::{skip_expr, skip_params, skip_stmt};
+use tree_view::names::name_end;
+use tree_view::numbers::u16_at;
 
 // Where a part of the tree ends, and how many of its bytes are taken out.
 #[derive(Clone, Copy)]

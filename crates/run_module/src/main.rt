@@ -9,8 +9,7 @@ use questions::Question;
 use report::Hex;
 use run::{Ending, Ran};
 use std::env::FillError;
-use std::io;
-use std::io::Read;
+use std::io::{Read, Result as IoResult};
 use std::rt::Env;
 
 // The bytes of an argument that is a number, and of the answers, at the most.
@@ -51,7 +50,7 @@ fn ending_name(ending: Ending) -> &'static str {
     }
 }
 
-fn answer(rt: &impl Print, outcome: Result<Ran, Question>, events: &[u8]) -> io::Result<()> {
+fn answer(rt: &impl Print, outcome: Result<Ran, Question>, events: &[u8]) -> IoResult<()> {
     match outcome {
         Ok(ran) => {
             println!(rt;
@@ -87,7 +86,7 @@ fn run_input<R: Read>(
     f: u64,
     answers: &[u8],
     budget: u64,
-) -> io::Result<()> {
+) -> IoResult<()> {
     let mut module = module_buffer();
     let mut events = event_buffer();
     let outcome = run::run(
@@ -106,7 +105,7 @@ fn run_with<P: Env + Print + Eprint, R: Read>(
     input: &mut R,
     f: u64,
     budget: u64,
-) -> io::Result<()> {
+) -> IoResult<()> {
     let mut buffer = [0u8; WORD];
     let word = match arg(rt, 2, &mut buffer) {
         Err(_) | Ok([]) => {
@@ -122,7 +121,7 @@ fn run_with<P: Env + Print + Eprint, R: Read>(
     }
 }
 
-fn main(rt: HostRuntime) -> io::Result<()> {
+fn main(rt: HostRuntime) -> IoResult<()> {
     if !has_arg(&rt, 3) || has_arg(&rt, 4) {
         return rt.eprintln("usage: run_module FUNCTION ANSWERS BUDGET < MODULE");
     }

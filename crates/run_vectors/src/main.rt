@@ -4,8 +4,7 @@
 use questions::Question;
 use report::Hex;
 use run::Ran;
-use std::io;
-use std::io::Read;
+use std::io::{Read, Result as IoResult};
 use vectors::Lines;
 
 const MODULE_ROOM: usize = 4096;
@@ -38,7 +37,7 @@ fn is_kept(events: &[u8], from: usize) -> bool {
 }
 
 // The answer, and `touched` where the events after those that it counts have changed.
-fn answer(rt: &impl Print, outcome: Result<Ran, Question>, events: &[u8]) -> io::Result<()> {
+fn answer(rt: &impl Print, outcome: Result<Ran, Question>, events: &[u8]) -> IoResult<()> {
     let count = match outcome {
         Ok(ran) => {
             print!(rt;
@@ -88,7 +87,7 @@ fn read<'a, R: Read>(
 }
 
 // The run of one case.
-fn replay<R: Read>(rt: &impl Print, lines: &mut Lines<R>) -> io::Result<()> {
+fn replay<R: Read>(rt: &impl Print, lines: &mut Lines<R>) -> IoResult<()> {
     let mut module = [0u8; MODULE_ROOM];
     let mut answers = [0u8; ANSWER_ROOM];
     let Some(case) = read(lines, &mut module, &mut answers) else {
@@ -109,6 +108,6 @@ fn replay<R: Read>(rt: &impl Print, lines: &mut Lines<R>) -> io::Result<()> {
     answer(rt, outcome, &buffer)
 }
 
-fn main(rt: HostRuntime) -> io::Result<()> {
+fn main(rt: HostRuntime) -> IoResult<()> {
     Lines::new(rt.stdin()).each_case(|lines| replay(&rt, lines))
 }

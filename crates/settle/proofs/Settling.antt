@@ -17,7 +17,7 @@ use Rattle.questions.specs.declared.Question.{Question}
 use Rattle.questions.specs.declared.Question.TheVariants.{Slots, Limits as LimitsKept}
 use Rattle.questions.specs.Numbers.{number}
 use Rattle.tree.specs.Settled.{tree_said, settled}
-use Rattle.tree.specs.StmtAt.{TreeAt}
+use Rattle.tree_view.specs.StmtAt.{TreeAt}
 use Rattle.tree.proofs.TreeViews.{answer-refused}
 use Rattle.state.specs.State.{State, state_of, limits_of, WithinLimits, Sound}
 use Rattle.state.specs.declared.Limits.{Limits}

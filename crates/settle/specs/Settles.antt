@@ -7,7 +7,7 @@ use Rattle.definitions.specs.Order.{accepted_tree}
 use Rattle.questions.specs.declared.Question.{Question}
 use Rattle.questions.specs.declared.Question.TheVariants.{Slots, Limits as LimitsKept}
 use Rattle.questions.specs.Numbers.{number}
-use Rattle.tree.specs.StmtAt.{TreeAt}
+use Rattle.tree_view.specs.StmtAt.{TreeAt}
 use Rattle.state.specs.State.{tables_of, limits_of}
 use Rattle.state.specs.declared.Limits.{Limits}
 use Rattle.lower_emit.specs.declared.emitter.Emitter.{Emitter}

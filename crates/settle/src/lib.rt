@@ -3,7 +3,7 @@
 
 ghost use Rattle.std.specs.Prelude.{◌≡◌, ◌≤◌, [], length};
 ghost use Rattle.state.specs.State.{Limited};
-ghost use Rattle.tree.specs.StmtAt.{TreeAt};
+ghost use Rattle.tree_view.specs.StmtAt.{TreeAt};
 ghost use Rattle.definitions.specs.Fits.{fits_block};
 ghost use Rattle.compile.specs.Compiled.{Fresh, tree_block};
 ghost use Rattle.settle.specs.Settles.{full_by, Settles, Accepts};

@@ -16,7 +16,7 @@ use Rattle.definitions.proofs.Named.{add-grows}
 use Rattle.state.specs.Words.{name_at}
 use Rattle.state.specs.Index.{bucket_of, Covered, none_covered, covered, seek_from}
 use Rattle.state.specs.State.{names_at, slots_from, slot_names, Slots}
-use Rattle.parts.specs.Places.{name_from}
+use Rattle.tree_view.specs.Places.{name_from}
 use Rattle.std.specs.Prelude as std
 use Rattle.std.specs.Prelude.{Some, None, is_some}
 use Rattle.names.specs.Sought.{place_in, sought_from}

@@ -11,7 +11,7 @@ use borrow.Rule.Slice.PartMut.{put_mid}
 use Rattle.definitions.specs.Bytes.{Name, member}
 use Rattle.definitions.specs.Tree.{Expr, lit, var, unary, binary, logical, call, attr, display, index, lambda, Exprs, []ᵉ, ◌∷ᵉ◌}
 use Rattle.definitions.specs.Slots.{add, within, sort, referenced_expr, referenced_exprs, captures}
-use Rattle.parts.specs.Places.{params_at}
+use Rattle.tree_view.specs.Places.{params_at}
 use Rattle.names.proofs.Indexing.{slots-count}
 use Rattle.state.specs.Index.{Covered, none_covered}
 use Rattle.state.specs.State.{names_at, slots_from, slot_names, Slots}

@@ -12,13 +12,13 @@ use Rattle.definitions.proofs.Named.{block-grows, branches-grow}
 use Rattle.numerals.specs.Kinds.{stmt_byte}
 use Rattle.numerals.specs.declared.kinds.StmtKind.{StmtKind}
 use Rattle.numerals.specs.declared.kinds.StmtKind.TheVariants.{Break, Continue, Pass, Expr, Return, Assign, If, While, For, Def, Class}
-use Rattle.parts.specs.Places.{Node, node, count_at, CountThere, name_from, name_end, There}
-use Rattle.parts.proofs.Nodes.{Seen}
-use Rattle.exprs.specs.ExprAt.{expr_at, ExprReads, TwoAt}
-use Rattle.tree.specs.StmtAt.{stmt_at, block_at, stmts_at, branches_at, StmtReads, BlockReads, StmtsRead, BranchesRead, BranchAt, body_at, IfAt, elifs_at, ForAt}
-use Rattle.tree.specs.StmtAt.{expr_stmt_at, return_at, assign_at, if_at, while_at, for_at, when_at, else_at, cons_at, def_at, class_at}
-use Rattle.tree.proofs.StmtViews.{view-block, view-stmts-none, view-stmts-more, view-branches-more, else-known, view-done, view-else}
-use Rattle.tree.proofs.StmtViews.{view-break, view-continue, view-pass, view-expr, view-return, view-assign, view-if, view-while, view-for, view-def, view-class}
+use Rattle.tree_view.specs.Places.{Node, node, count_at, CountThere, name_from, name_end, There}
+use Rattle.tree_view.proofs.Nodes.{Seen}
+use Rattle.tree_view.specs.ExprAt.{expr_at, ExprReads, TwoAt}
+use Rattle.tree_view.specs.StmtAt.{stmt_at, block_at, stmts_at, branches_at, StmtReads, BlockReads, StmtsRead, BranchesRead, BranchAt, body_at, IfAt, elifs_at, ForAt}
+use Rattle.tree_view.specs.StmtAt.{expr_stmt_at, return_at, assign_at, if_at, while_at, for_at, when_at, else_at, cons_at, def_at, class_at}
+use Rattle.tree_view.proofs.StmtViews.{view-block, view-stmts-none, view-stmts-more, view-branches-more, else-known, view-done, view-else}
+use Rattle.tree_view.proofs.StmtViews.{view-break, view-continue, view-pass, view-expr, view-return, view-assign, view-if, view-while, view-for, view-def, view-class}
 use Rattle.std.specs.Prelude.{Option, Some, None}
 use Rattle.slots.specs.Gathered.{names_gathered, Adds, Gathers, no_loops}
 use Rattle.slots.specs.declared.walk.Gathering.{Gathering}

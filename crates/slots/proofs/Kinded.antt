@@ -8,12 +8,12 @@ use lib.ListN.{get_or}
 use Rattle.definitions.specs.Tree.{Literal, Display, list_d, tuple_d, set_d, tree_set_d}
 use Rattle.definitions.specs.Tree.{View, as_var, as_attr, as_index, as_tuple, view, view_display}
 use Rattle.definitions.specs.Tree.{Expr, lit}
-use Rattle.parts.specs.Places.{Node, node, name_from}
-use Rattle.exprs.specs.ExprAt.{expr_at, ExprReads, int_at, float_at, string_at, var_at}
-use Rattle.exprs.specs.ExprAt.{ListAt, list_at, second_at, attribute_at, display_at, index_at}
-use Rattle.parts.proofs.Nodes.{Seen}
-use Rattle.exprs.proofs.ExprViews.{view-none, view-false, view-true, view-int, view-float, view-string, view-var}
-use Rattle.exprs.proofs.ExprViews.{view-attribute, view-list, view-tuple, view-set, view-tree-set, view-index}
+use Rattle.tree_view.specs.Places.{Node, node, name_from}
+use Rattle.tree_view.specs.ExprAt.{expr_at, ExprReads, int_at, float_at, string_at, var_at}
+use Rattle.tree_view.specs.ExprAt.{ListAt, list_at, second_at, attribute_at, display_at, index_at}
+use Rattle.tree_view.proofs.Nodes.{Seen}
+use Rattle.tree_view.proofs.ExprViews.{view-none, view-false, view-true, view-int, view-float, view-string, view-var}
+use Rattle.tree_view.proofs.ExprViews.{view-attribute, view-list, view-tuple, view-set, view-tree-set, view-index}
 
 literal-is : (x : Node Expr) (l : Literal) (m : ℕ) → x ≡ node (lit l) m → (k : Literal) × (x.value ≡ lit k)
 literal-is x l m e = (l, ap (λ (y : Node Expr). y.value) e)

@@ -12,8 +12,8 @@ use Rattle.definitions.specs.Bytes.{Name, same, position, member}
 use Rattle.definitions.proofs.MethodOrder.{same-eq}
 use Rattle.definitions.proofs.Resolve.{position-lt}
 use Rattle.definitions.proofs.Captured.{or_swap, member-cons, member-nil, member-append}
-use Rattle.parts.specs.Places.{count_at, name_from, name_end, names_from, There, AllThere, ParamsAt, params_at}
-use Rattle.parts.proofs.NameLaws.{there-first, there-next, from_more, from-none}
+use Rattle.tree_view.specs.Places.{count_at, name_from, name_end, names_from, There, AllThere, ParamsAt, params_at}
+use Rattle.tree_view.proofs.NameLaws.{there-first, there-next, from_more, from-none}
 use Rattle.names.proofs.Finding.{step, position-cons}
 use Rattle.state.specs.declared.Scope.{Scope}
 use Rattle.slots.specs.Held.{mark, mark_all, is_free, Marked}

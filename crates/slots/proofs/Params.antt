@@ -10,8 +10,8 @@ use Rattle.definitions.specs.Tree.{Block}
 use Rattle.state.specs.Index.{Covered}
 use Rattle.state.specs.State.{names_at, slots_from}
 use Rattle.definitions.specs.Slots.{locals_block, loops_block, Frame, with_loops}
-use Rattle.parts.specs.Places.{Node, count_at, name_from, name_end, There, names_from, AllThere, ParamsAt, params_at}
-use Rattle.parts.proofs.NameLaws.{there-first, there-next, length-names}
+use Rattle.tree_view.specs.Places.{Node, count_at, name_from, name_end, There, names_from, AllThere, ParamsAt, params_at}
+use Rattle.tree_view.proofs.NameLaws.{there-first, there-next, length-names}
 use Rattle.std.specs.Prelude.{Option, Some, None}
 use Rattle.slots.specs.Slotted.{leading, first_names, Indexed, Collected, up_to256, Framing, Frames}
 use Rattle.slots.specs.Gathered.{names_gathered, Gathers}

@@ -10,10 +10,10 @@ use Rattle.definitions.specs.Tree.{Expr, Exprs, Display}
 use Rattle.definitions.specs.Slots.{add}
 use Rattle.state.specs.State.{slots_from, slot_names}
 use Rattle.state.specs.declared.Scope.{Scope}
-use Rattle.parts.specs.Places.{Node, name_from, name_end, There, params_at}
-use Rattle.exprs.specs.ExprAt.{expr_at, exprs_at, var_at, unary_at, second_at, binary_at, list_at, call_at, attribute_at, display_at, pairs_at, dict_at, index_at, lambda_at, cons_exprs_at}
-use Rattle.exprs.specs.ExprAt.{ExprReads, ExprsRead, TwoAt, ListAt, CallAt, AttributeAt, LambdaAt}
-use Rattle.exprs.proofs.ExprViews.{view-exprs-none, view-exprs-more}
+use Rattle.tree_view.specs.Places.{Node, name_from, name_end, There, params_at}
+use Rattle.tree_view.specs.ExprAt.{expr_at, exprs_at, var_at, unary_at, second_at, binary_at, list_at, call_at, attribute_at, display_at, pairs_at, dict_at, index_at, lambda_at, cons_exprs_at}
+use Rattle.tree_view.specs.ExprAt.{ExprReads, ExprsRead, TwoAt, ListAt, CallAt, AttributeAt, LambdaAt}
+use Rattle.tree_view.proofs.ExprViews.{view-exprs-none, view-exprs-more}
 use Rattle.slots.specs.Slotted.{first_names, Added}
 use Rattle.slots.specs.Held.{mark_all, is_free, add_held, held_expr, held_exprs, Held, WalkKeeps}
 use Rattle.std.specs.Borrow.{MutBor}
@@ -23,7 +23,7 @@ use Rattle.names.proofs.Indexing.{slots-count}
 use Rattle.slots.proofs.Adding.{first-length}
 use Rattle.slots.proofs.Holding.{held-few, held-add, held_in, held_out}
 use Rattle.slots.proofs.Kinded.{seen-literal}
-use Rattle.exprs.proofs.Operators.{unary-each, binary-each}
+use Rattle.tree_view.proofs.Operators.{unary-each, binary-each}
 
 abbrev tree_of : Captures → List ℕ
 tree_of c = c.around.tree.now

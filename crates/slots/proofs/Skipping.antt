@@ -7,10 +7,11 @@ use native.Mathlib.Omega.{arith}
 use native.Mathlib.Numerals.{sub-one}
 use lib.ListN.{get_or}
 use Rattle.definitions.specs.Tree.{Expr, Exprs}
-use Rattle.parts.specs.Places.{Node, count_at, name_end, There, names_end, AllThere, ParamsAt, params_at, text_node_at}
-use Rattle.exprs.specs.ExprAt.{expr_at, exprs_at, ExprReads, ExprsRead, int_at, float_at, string_at, var_at, unary_at, second_at, binary_at, list_at, call_at, attribute_at, display_at, pairs_at, dict_at, index_at, lambda_at, cons_exprs_at}
-use Rattle.parts.proofs.NameLaws.{there-first, there-next}
-use Rattle.exprs.proofs.ExprViews.{view-none, view-false, view-true, view-int, view-float, view-string, view-var, view-unary, view-binary, view-call, view-attribute, view-dict, view-index, view-lambda, view-exprs-none, view-exprs-more}
+use Rattle.tree_view.specs.Places.{Node, count_at, name_end, There, names_end, AllThere, ParamsAt, params_at, text_node_at}
+use Rattle.tree_view.specs.ExprAt.{expr_at, exprs_at, ExprReads, ExprsRead, int_at, float_at, string_at, var_at, unary_at, second_at, binary_at}
+use Rattle.tree_view.specs.ExprAt.{list_at, call_at, attribute_at, display_at, pairs_at, dict_at, index_at, lambda_at, cons_exprs_at}
+use Rattle.tree_view.proofs.NameLaws.{there-first, there-next}
+use Rattle.tree_view.proofs.ExprViews.{view-none, view-false, view-true, view-int, view-float, view-string, view-var, view-unary, view-binary, view-call, view-attribute, view-dict, view-index, view-lambda, view-exprs-none, view-exprs-more}
 use Rattle.slots.specs.Steps.{Leads}
 use Rattle.slots.proofs.Kinded.{seen-display}
 use Rattle.slots.proofs.Walks.{along}

@@ -6,12 +6,13 @@ use mathlib.Core.Logic.{◌⊎◌, ⊎_elim}
 use native.Mathlib.Omega.{arith}
 use lib.ListN.{length, get_or}
 use Rattle.definitions.specs.Tree.{Stmt, Block, Branches, Methods, Attribute}
-use Rattle.parts.specs.Places.{Node, count_at, name_end, There}
-use Rattle.exprs.specs.ExprAt.{expr_at, ExprReads, second_at}
-use Rattle.tree.specs.StmtAt.{stmt_at, block_at, stmts_at, branches_at, methods_at, attributes_at, values_at, StmtReads, BlockReads, StmtsRead, BranchesRead, MethodsRead, AttributesRead, ValuesRead}
-use Rattle.tree.specs.StmtAt.{expr_stmt_at, return_at, assign_at, BranchAt, body_at, IfAt, elifs_at, if_at, while_at, for_at, when_at, else_at, DefAt, def_block_at, def_at, method_at, ClassAt, class_methods_at, class_at, value_at, cons_at}
-use Rattle.tree.proofs.StmtViews.{view-break, view-continue, view-pass, view-expr, view-return, view-assign, view-if, view-while, view-for, view-def, view-class}
-use Rattle.tree.proofs.StmtViews.{view-block, view-stmts-none, view-stmts-more, view-branches-more, else-known, view-done, view-else, view-methods-none, view-methods-more, view-attributes, view-values-none, view-values-more}
+use Rattle.tree_view.specs.Places.{Node, count_at, name_end, There}
+use Rattle.tree_view.specs.ExprAt.{expr_at, ExprReads, second_at}
+use Rattle.tree_view.specs.StmtAt.{stmt_at, block_at, stmts_at, branches_at, methods_at, attributes_at, values_at, StmtReads, BlockReads, StmtsRead, BranchesRead, MethodsRead, AttributesRead, ValuesRead}
+use Rattle.tree_view.specs.StmtAt.{expr_stmt_at, return_at, assign_at, BranchAt, body_at, IfAt, elifs_at, if_at, while_at, for_at, when_at}
+use Rattle.tree_view.specs.StmtAt.{else_at, DefAt, def_block_at, def_at, method_at, ClassAt, class_methods_at, class_at, value_at, cons_at}
+use Rattle.tree_view.proofs.StmtViews.{view-break, view-continue, view-pass, view-expr, view-return, view-assign, view-if, view-while, view-for, view-def, view-class}
+use Rattle.tree_view.proofs.StmtViews.{view-block, view-stmts-none, view-stmts-more, view-branches-more, else-known, view-done, view-else, view-methods-none, view-methods-more, view-attributes, view-values-none, view-values-more}
 use Rattle.slots.specs.Steps.{Leads}
 use Rattle.slots.proofs.Walks.{along}
 

@@ -5,7 +5,7 @@ use mathlib.Core.List.{List}
 use native.Mathlib.Omega.{arith}
 use lib.ListN.{length}
 use Rattle.definitions.specs.Bytes.{Name}
-use Rattle.parts.specs.Places.{Node}
+use Rattle.tree_view.specs.Places.{Node}
 use Rattle.std.specs.Prelude.{Option, Some, None}
 use Rattle.slots.specs.Slotted.{up_to256}
 use Rattle.slots.specs.Gathered.{names_gathered, Adds, Gathers}

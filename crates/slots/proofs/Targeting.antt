@@ -14,16 +14,16 @@ use Rattle.definitions.proofs.Named.{add_form, target-form, targets-grow}
 use Rattle.numerals.specs.Kinds.{expr_byte}
 use Rattle.numerals.specs.declared.kinds.ExprKind.{ExprKind}
 use Rattle.numerals.specs.declared.kinds.ExprKind.TheVariants.{Variable, Tuple}
-use Rattle.parts.specs.Places.{Node, count_at, name_from, name_end, There}
-use Rattle.exprs.specs.ExprAt.{expr_at, exprs_at, ExprReads, ExprsRead, ListAt, list_at, var_at, display_at, cons_exprs_at}
-use Rattle.exprs.proofs.ExprViews.{view-var, view-tuple, view-exprs-none, view-exprs-more}
+use Rattle.tree_view.specs.Places.{Node, count_at, name_from, name_end, There}
+use Rattle.tree_view.specs.ExprAt.{expr_at, exprs_at, ExprReads, ExprsRead, ListAt, list_at, var_at, display_at, cons_exprs_at}
+use Rattle.tree_view.proofs.ExprViews.{view-var, view-tuple, view-exprs-none, view-exprs-more}
 use Rattle.std.specs.Prelude.{Option, Some, None}
 use Rattle.slots.specs.Gathered.{names_gathered, Adds, Gathers, no_loops}
 use Rattle.slots.specs.declared.walk.Gathering.{Gathering}
 use Rattle.slots.proofs.KindBytes.{is-variable, is-tuple}
 use Rattle.slots.proofs.Kinded.{form-var, form-attribute, form-tuple, form-index}
 use Rattle.slots.proofs.Steps.{adds-on, gathers-as, gathers-to, gathers-stopped, gathers-none, Splits, Left, left-next, left-stopped}
-use Rattle.exprs.proofs.OtherForms.{other-form}
+use Rattle.tree_view.proofs.OtherForms.{other-form}
 
 module _ (d : ℕ) (t : List ℕ) (p : ℕ) (r : ExprReads d t p) where
   -- ---- what a target adds, by its kind

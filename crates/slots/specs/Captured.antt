@@ -1,7 +1,7 @@
 -- What a step of a walk over a lambda's body leaves: the names kept.
 use Rattle.std.specs.Prelude.{ℕ, ◌≡◌, Bool, List}
 use Rattle.definitions.specs.Bytes.{Name}
-use Rattle.parts.specs.Places.{Node}
+use Rattle.tree_view.specs.Places.{Node}
 use Rattle.state.specs.State.{slot_names}
 use Rattle.slots.specs.Slotted.{first_names}
 use Rattle.state.specs.declared.Scope.{Scope}

@@ -1,7 +1,7 @@
 -- What a step of a walk over statements leaves: the names gathered, and how many loops there were.
 use Rattle.std.specs.Prelude.{ℕ, ◌+◌, ◌<◌, ◌≡◌, List, length, Option, Some, None}
 use Rattle.definitions.specs.Bytes.{Name}
-use Rattle.parts.specs.Places.{Node}
+use Rattle.tree_view.specs.Places.{Node}
 use Rattle.slots.specs.Slotted.{first_names, up_to256}
 use Rattle.slots.specs.declared.walk.Gathering.{Gathering}
 

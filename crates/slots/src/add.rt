@@ -4,7 +4,7 @@ ghost use Rattle.definitions.specs.Bytes.{same, position};
 ghost use Rattle.definitions.specs.Slots.{add};
 ghost use Rattle.state.specs.State.{slots_from, slot_names, Slots};
 ghost use Rattle.names.specs.Sought.{place_in};
-ghost use Rattle.parts.specs.Places.{name_from};
+ghost use Rattle.tree_view.specs.Places.{name_from};
 ghost use Rattle.slots.specs.Slotted.{first_names, Indexed, IsBucket, Added};
 
 use names::index::{find_from, slot_bucket, start};

@@ -4,8 +4,8 @@
 ghost use Rattle.std.specs.Prelude.{◌++◌, ◌+◌, ◌≤◌, length};
 ghost use Rattle.definitions.specs.Slots.{captures};
 ghost use Rattle.state.specs.State.{slots_from, slot_names, Slots};
-ghost use Rattle.parts.specs.Places.{ParamsAt, params_at};
-ghost use Rattle.exprs.specs.ExprAt.{expr_at, ExprReads};
+ghost use Rattle.tree_view.specs.Places.{ParamsAt, params_at};
+ghost use Rattle.tree_view.specs.ExprAt.{expr_at, ExprReads};
 ghost use Rattle.slots.specs.Slotted.{Collected};
 ghost use Rattle.slots.specs.Held.{WalkKeeps, CapturesAt};
 ghost use Rattle.slots.specs.HeldProps.{keeping-prop};
@@ -18,9 +18,9 @@ use crate::skip::{skip_expr, skip_params};
 use numerals::kinds::ExprKind;
 use numerals::places::SLOTS_FROM;
 use numerals::sizes::{SLOTS_MARKED, SLOTS_MOST, SLOTS_ROOM};
-use parts::names::name_end;
-use parts::numbers::u16_at;
 use state::Scope;
+use tree_view::names::name_end;
+use tree_view::numbers::u16_at;
 
 // A walk over a lambda's body: the first n of `kept` are the names met that have a slot around that is not marked. Marked are those of the parameters of
 // the lambda, and of those in it that the walk stands in.
@@ -35,8 +35,8 @@ struct Captures<'a, 'k> {
 
 impl Captures<'_, '_> {
     ghost use Rattle.std.specs.Prelude.{◌≡◌};
-    ghost use Rattle.parts.specs.Places.{name_from, There};
-    ghost use Rattle.exprs.specs.ExprAt.{exprs_at, ExprsRead, TwoAt, index_at, CallAt, call_at, ListAt, list_at, DictAt, pairs_at, AttributeAt, attribute_at, LambdaAt, lambda_at};
+    ghost use Rattle.tree_view.specs.Places.{name_from, There};
+    ghost use Rattle.tree_view.specs.ExprAt.{exprs_at, ExprsRead, TwoAt, index_at, CallAt, call_at, ListAt, list_at, DictAt, pairs_at, AttributeAt, attribute_at, LambdaAt, lambda_at};
     ghost use Rattle.slots.specs.Held.{mark, mark_all, is_free, add_held, held_expr, held_exprs};
     ghost use Rattle.slots.specs.Slotted.{IsBucket};
     ghost use Rattle.slots.specs.Captured.{names_around, names_kept, MarksSlots, Keeps, Refers};

@@ -2,17 +2,17 @@
 // A short tree and the room of the slots stay clauses of what other crates call: a struct with both would be made for one call.
 ghost use Rattle.std.specs.Prelude.{◌≡◌, ◌+◌, ◌≤◌, length};
 ghost use Rattle.definitions.specs.Slots.{with_loops};
-ghost use Rattle.parts.specs.Places.{names_from, AllThere, ParamsAt, params_at};
+ghost use Rattle.tree_view.specs.Places.{names_from, AllThere, ParamsAt, params_at};
 ghost use Rattle.state.specs.State.{slots_from, names_at};
-ghost use Rattle.tree.specs.StmtAt.{block_at, BlockReads};
+ghost use Rattle.tree_view.specs.StmtAt.{block_at, BlockReads};
 ghost use Rattle.slots.specs.Slotted.{Collected, Frames};
 
 use crate::index::index_places;
 use crate::walk::Gathering;
 use numerals::places::SLOTS_FROM;
 use numerals::sizes::SLOTS_MOST;
-use parts::names::name_end;
-use parts::numbers::u16_at;
+use tree_view::names::name_end;
+use tree_view::numbers::u16_at;
 
 // The places of the names from `at` on, as many as there is room for.
 fn place_names(tree: &[u8], at: usize, places: &mut [u32])

@@ -1,15 +1,15 @@
 // Where the parts of an accepted tree end: only kinds, counts and lengths are read.
 // The tree, a place and a depth stay parameters: each call names a place and a depth anew, and what is asked (ExprReads, TwoAt, ..) speaks of these, so a struct of the three is no plainer.
 ghost use Rattle.std.specs.Prelude.{◌≡◌, ◌+◌, ◌*◌, ◌<◌, ℕ};
-ghost use Rattle.parts.specs.Places.{name_end, There, TextAt, text_node_at, ParamsAt, params_at};
-ghost use Rattle.exprs.specs.ExprAt.{expr_at, exprs_at, ExprReads, ExprsRead, TwoAt, second_at, CallAt, ListAt, list_at, DictAt, pairs_at, AttributeAt, LambdaAt};
-ghost use Rattle.tree.specs.StmtAt.{stmt_at, block_at, branches_at, attributes_at, body_at, elifs_at, def_block_at, class_methods_at};
-ghost use Rattle.tree.specs.StmtAt.{StmtReads, BlockReads, BranchesRead, AttributesRead, BranchAt, IfAt, ForAt, DefAt, ClassAt};
+ghost use Rattle.tree_view.specs.Places.{name_end, There, TextAt, text_node_at, ParamsAt, params_at};
+ghost use Rattle.tree_view.specs.ExprAt.{expr_at, exprs_at, ExprReads, ExprsRead, TwoAt, second_at, CallAt, ListAt, list_at, DictAt, pairs_at, AttributeAt, LambdaAt};
+ghost use Rattle.tree_view.specs.StmtAt.{stmt_at, block_at, branches_at, attributes_at, body_at, elifs_at, def_block_at, class_methods_at};
+ghost use Rattle.tree_view.specs.StmtAt.{StmtReads, BlockReads, BranchesRead, AttributesRead, BranchAt, IfAt, ForAt, DefAt, ClassAt};
 ghost use Rattle.slots.specs.Steps.{Leads};
 
 use numerals::kinds::{ExprKind, StmtKind};
-use parts::names::name_end;
-use parts::numbers::u16_at;
+use tree_view::names::name_end;
+use tree_view::numbers::u16_at;
 
 // Where so many parts from `at` on end, each of which `each` passes over.
 fn skip_each<F: Fn(usize) -> usize>(at: usize, count: u32, each: F) -> usize

@@ -10,8 +10,8 @@ use crate::add::{add_at, bucket_at};
 use crate::skip::{skip_expr, skip_stmt, skip_value};
 use numerals::kinds::{ExprKind, StmtKind};
 use numerals::sizes::SLOTS_MOST;
-use parts::names::name_end;
-use parts::numbers::u16_at;
+use tree_view::names::name_end;
+use tree_view::numbers::u16_at;
 
 // The first n slots have the names gathered so far, which stand in the tree. Of 256 loops no more are counted: these are too many.
 #[derive(Drop)]
@@ -30,9 +30,9 @@ pub(crate) struct Gathering<'t, 's> {
 impl Gathering<'_, '_> {
     ghost use Rattle.std.specs.Prelude.{◌<◌};
     ghost use Rattle.definitions.specs.Slots.{add, add_target, add_targets, locals_stmt, locals_block, locals_branches, loops_stmt, loops_block, loops_branches};
-    ghost use Rattle.parts.specs.Places.{name_from};
-    ghost use Rattle.exprs.specs.ExprAt.{expr_at, exprs_at, ExprReads, ExprsRead, TwoAt};
-    ghost use Rattle.tree.specs.StmtAt.{stmt_at, block_at, branches_at, body_at, assign_at, if_at, for_at, StmtReads, BlockReads, BranchesRead, BranchAt, IfAt, ForAt};
+    ghost use Rattle.tree_view.specs.Places.{name_from};
+    ghost use Rattle.tree_view.specs.ExprAt.{expr_at, exprs_at, ExprReads, ExprsRead, TwoAt};
+    ghost use Rattle.tree_view.specs.StmtAt.{stmt_at, block_at, branches_at, body_at, assign_at, if_at, for_at, StmtReads, BlockReads, BranchesRead, BranchAt, IfAt, ForAt};
     ghost use Rattle.slots.specs.Gathered.{names_gathered, Adds, Gathers, no_loops};
 
     // The name at `at`.

@@ -15,16 +15,16 @@ use Rattle.questions.specs.declared.Question.TheVariants.{TreeLayout, Depth}
 use Rattle.questions.specs.Numbers.{number}
 use Rattle.definitions.specs.Wellformed.{if_asked}
 use Rattle.parts.specs.Asked.{number_asked, stand}
-use Rattle.parts.specs.Judge.{Passed, Next, least, judge_expr, judge_stmt, judge_block, judge_stmts, judge_branch, judge_branches, judge_method, judge_methods, judge_attribute_list, judge_attributes, judge_attribute_value}
+use Rattle.tree_view.specs.Judge.{Passed, Next, least, judge_expr, judge_stmt, judge_block, judge_stmts, judge_branch, judge_branches, judge_method, judge_methods, judge_attribute_list, judge_attributes, judge_attribute_value}
 use Rattle.parts.specs.Judged.{passed_by, Judged, ReadsCount, ReadsByte, StandChanged, answered}
 use Rattle.parts.specs.declared.asked.BlockQuestion.{BlockQuestion}
 use Rattle.parts.specs.declared.asked.BlockQuestion.TheVariants.{Loops}
 use Rattle.parts.specs.declared.checker.Checker.{Checker}
-use Rattle.parts.specs.declared.roles.Role.TheVariants.{Value}
+use Rattle.tree_view.specs.declared.roles.Role.TheVariants.{Value}
 use Rattle.parts.proofs.Steps.{Turns, count-step, count-stop, done}
-use Rattle.tree.proofs.StmtLaws.{stmt-none, stmt-end, stmt-unknown, at-break, at-continue, at-expr, at_return, block-law}
-use Rattle.tree.proofs.StmtLaws.{attributes-law, stmts-none, stmts-more, branches-none, branches-more, methods-none, methods-more}
-use Rattle.tree.proofs.StmtLaws.{attributes-none, attributes-more, else-end, else-none, else-block, else-unknown}
+use Rattle.tree_view.proofs.StmtLaws.{stmt-none, stmt-end, stmt-unknown, at-break, at-continue, at-expr, at_return, block-law}
+use Rattle.tree_view.proofs.StmtLaws.{attributes-law, stmts-none, stmts-more, branches-none, branches-more, methods-none, methods-more}
+use Rattle.tree_view.proofs.StmtLaws.{attributes-none, attributes-more, else-end, else-none, else-block, else-unknown}
 
 pub stmt-stop : (l : Bool) (d : ℕ) {q : Question} {o : Result (Unit {0}) Question} {c c₁ : Checker} → o ≡ Err q → ReadsByte (Err q) c c₁ → Judged o c c₁ (judge_stmt l d)
 unfolding passed_by number ReadsByte

@@ -12,10 +12,10 @@ use Rattle.definitions.specs.Bytes.{Answer, refused, accepted, when_accepted, Pa
 use Rattle.definitions.specs.Tree.{Block, []ᵇ}
 use Rattle.definitions.specs.Parse.{parse_stmt, block_of, whole_block, read_tree}
 use Rattle.definitions.specs.Wellformed.{ask_block, block_questions, first_no, refused_by, well_formed, check_tree}
-use Rattle.parts.specs.Places.{Node, node}
-use Rattle.parts.proofs.Nodes.{got-node, got-reads}
+use Rattle.tree_view.specs.Places.{Node, node}
+use Rattle.tree_view.proofs.Nodes.{got-node, got-reads}
 use Rattle.tree.specs.Settled.{tree_said, without_block, settled, Headed}
-use Rattle.tree.specs.StmtAt.{block_at, BlockReads, TreeAt}
+use Rattle.tree_view.specs.StmtAt.{block_at, BlockReads, TreeAt}
 use Rattle.std.specs.Prelude.{Ok, Err}
 use Rattle.questions.specs.declared.Question.{Question}
 use Rattle.questions.specs.Numbers.{number}

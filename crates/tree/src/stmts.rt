@@ -1,14 +1,14 @@
 // Statements, by a checker: questions 5 to 13.
-ghost use Rattle.parts.specs.Judge.{judge_assign, judge_attribute_list, judge_attributes, judge_attribute_value, judge_stmt, judge_block};
-ghost use Rattle.parts.specs.Judge.{judge_branch, judge_branches, judge_if, judge_for, judge_def, judge_method, judge_methods, judge_class};
+ghost use Rattle.tree_view.specs.Judge.{judge_assign, judge_attribute_list, judge_attributes, judge_attribute_value, judge_stmt, judge_block};
+ghost use Rattle.tree_view.specs.Judge.{judge_branch, judge_branches, judge_if, judge_for, judge_def, judge_method, judge_methods, judge_class};
 ghost use Rattle.parts.specs.Judged.{Judged};
 
 use exprs::check_expr;
 use numerals::kinds::StmtKind;
 use parts::asked::BlockQuestion;
 use parts::checker::Checker;
-use parts::roles::Role;
 use questions::Question;
+use tree_view::roles::Role;
 
 // Where a statement stands: how many levels are left, and whether a loop of the same function is around.
 #[derive(Clone, Copy)]

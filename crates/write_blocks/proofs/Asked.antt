@@ -4,8 +4,8 @@ use mathlib.Core.List.{List}
 use Rattle.definitions.specs.Tree.{if}
 use Rattle.definitions.specs.Wellformed.{ask_stmt}
 use Rattle.definitions.proofs.Asked.{ok-B, ok-S}
-use Rattle.exprs.specs.ExprAt.{expr_at}
-use Rattle.tree.specs.StmtAt.{block_at, branches_at, body_at}
+use Rattle.tree_view.specs.ExprAt.{expr_at}
+use Rattle.tree_view.specs.StmtAt.{block_at, branches_at, body_at}
 use Rattle.lower_forms.specs.Lowerable.{of_names, of_breaks}
 use Rattle.lower_forms.specs.Lowering.{BlockLowerable, BranchLowerable, BranchesLowerable}
 use Rattle.write_blocks.proofs.Branches.{AskedBlock, AskedBranch, AskedBranches}

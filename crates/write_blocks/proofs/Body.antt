@@ -11,7 +11,7 @@ use Rattle.definitions.specs.Lower.{emit_block}
 use Rattle.definitions.specs.Measured as Measured
 use Rattle.definitions.specs.Measured.{write_block}
 use Rattle.definitions.proofs.Measured.{writes_parts}
-use Rattle.tree.specs.StmtAt.{block_at}
+use Rattle.tree_view.specs.StmtAt.{block_at}
 use Rattle.lower_forms.specs.Lowerable.{of_names, of_breaks}
 use Rattle.lower_forms.specs.Lowering.{BlockLowerable, block_code}
 use Rattle.lower_calls.proofs.Calls.{at_same}

@@ -10,10 +10,10 @@ use Rattle.definitions.specs.Tables.{Emit, one}
 use Rattle.definitions.specs.Instruction.{Jump}
 use Rattle.definitions.specs.Slots.{Keeping, past, loops_block, loops_branches}
 use Rattle.definitions.specs.Measured.{so_far, measure_expr, measure_block}
-use Rattle.exprs.specs.ExprAt.{expr_at}
-use Rattle.parts.specs.Places.{Node}
-use Rattle.tree.specs.StmtAt.{body_at, branches_at}
-use Rattle.tree.proofs.LoopsAt.{elifs-loops}
+use Rattle.tree_view.specs.ExprAt.{expr_at}
+use Rattle.tree_view.specs.Places.{Node}
+use Rattle.tree_view.specs.StmtAt.{body_at, branches_at}
+use Rattle.tree_view.proofs.LoopsAt.{elifs-loops}
 use Rattle.state.specs.State.{State, emit_at}
 use Rattle.state.specs.Kept.{keeping_of, after_loops, Spare, Passes}
 use Rattle.state.proofs.Kept.{passes_over, after-sum, spare-first, spare-rest, keeping-past}

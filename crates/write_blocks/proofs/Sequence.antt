@@ -11,10 +11,10 @@ use Rattle.definitions.specs.Tables.{Emit, ◌⨟◌}
 use Rattle.definitions.specs.Slots.{Keeping, past, loops_stmt, loops_block}
 use Rattle.definitions.specs.Measured as Measured
 use Rattle.definitions.specs.Measured.{SoFar, measure_block, write_stmt, write_block}
-use Rattle.parts.specs.Places.{Node, count_at}
-use Rattle.tree.specs.StmtAt.{stmt_at, block_at, stmts_at, cons_at}
-use Rattle.tree.proofs.StmtViews.{view-block, view-stmts-none, view-stmts-more}
-use Rattle.tree.proofs.LoopsAt.{stmts-loops, none-loops}
+use Rattle.tree_view.specs.Places.{Node, count_at}
+use Rattle.tree_view.specs.StmtAt.{stmt_at, block_at, stmts_at, cons_at}
+use Rattle.tree_view.proofs.StmtViews.{view-block, view-stmts-none, view-stmts-more}
+use Rattle.tree_view.proofs.LoopsAt.{stmts-loops, none-loops}
 use Rattle.state.specs.State.{State, emit_at, WithinLimits}
 use Rattle.state.specs.Kept.{keeping_of, after_loops, Spare, Passes}
 use Rattle.state.proofs.Kept.{after_none, after-sum, spare-first, spare-rest, keeping-past, passes_over}

@@ -17,8 +17,8 @@ use Rattle.definitions.proofs.CountedExpr.{counted-expr}
 use Rattle.definitions.proofs.CountedStmt.{counted-ask_iter}
 use Rattle.definitions.proofs.Measured.{block-known}
 use Rattle.definitions.proofs.Alike.{alike_same, alike-expr}
-use Rattle.exprs.specs.ExprAt.{expr_at}
-use Rattle.tree.specs.StmtAt.{body_at, block_at}
+use Rattle.tree_view.specs.ExprAt.{expr_at}
+use Rattle.tree_view.specs.StmtAt.{body_at, block_at}
 use Rattle.definitions.proofs.Growth.{lengthens-seq, lengthens-take_iter}
 use Rattle.measure_stmts.specs.Heads.{heads_block}
 use Rattle.lower_forms.specs.Lowerable.{expr_code}

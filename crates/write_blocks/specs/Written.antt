@@ -8,7 +8,7 @@ use Rattle.definitions.specs.Slots.{Keeping, past}
 use Rattle.definitions.specs.Lower.{Keeper, ask_iter, take_iter}
 use Rattle.definitions.specs.Measured as Measured
 use Rattle.definitions.specs.Measured.{knowing, measure_expr, measure_block, measure_hop, measure_ask, measure_take, write_expr, write_loop, write_for, write_stmt, write_block, write_branches}
-use Rattle.tree.specs.StmtAt.{stmt_at, block_at, stmts_at}
+use Rattle.tree_view.specs.StmtAt.{stmt_at, block_at, stmts_at}
 use Rattle.lower_forms.specs.Lowering.{BlockLowerable}
 use Rattle.lower_emit.specs.declared.emitter.Emitter.{Emitter}
 use Rattle.lower_emit.specs.Emitting.{state_in}

@@ -21,10 +21,10 @@ use Rattle.definitions.proofs.Measured.{writes_parts}
 use Rattle.numerals.specs.Kinds.{stmt_byte}
 use Rattle.numerals.specs.declared.kinds.StmtKind.{StmtKind}
 use Rattle.numerals.specs.declared.kinds.StmtKind.TheVariants.{Pass, Expr, Return, Assign}
-use Rattle.parts.specs.Places.{Node, name_end}
-use Rattle.exprs.specs.ExprAt.{expr_at}
-use Rattle.tree.specs.StmtAt.{stmt_at, block_at, branches_at, body_at, elifs_at, expr_stmt_at, return_at, assign_at, if_at, while_at, for_at, def_at, class_at, else_at}
-use Rattle.tree.proofs.StmtViews.{view-break, view-continue, view-pass, view-expr, view-return, view-assign, view-if, view-while, view-for, view-def, view-class}
+use Rattle.tree_view.specs.Places.{Node, name_end}
+use Rattle.tree_view.specs.ExprAt.{expr_at}
+use Rattle.tree_view.specs.StmtAt.{stmt_at, block_at, branches_at, body_at, elifs_at, expr_stmt_at, return_at, assign_at, if_at, while_at, for_at, def_at, class_at, else_at}
+use Rattle.tree_view.proofs.StmtViews.{view-break, view-continue, view-pass, view-expr, view-return, view-assign, view-if, view-while, view-for, view-def, view-class}
 use Rattle.state.specs.Words.{name_at}
 use Rattle.state.specs.State.{emit_at}
 use Rattle.lower_forms.specs.Lowerable.{Relied, of_names, of_breaks}

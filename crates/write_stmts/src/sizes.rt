@@ -1,8 +1,8 @@
 // How many instructions a block or a branch will have, measured where it is about to be written.
 ghost use Rattle.std.specs.Prelude.{◌+◌};
 ghost use Rattle.definitions.specs.Measured.{so_far, measure_expr, measure_block};
-ghost use Rattle.exprs.specs.ExprAt.{expr_at};
-ghost use Rattle.tree.specs.StmtAt.{block_at, BlockReads, BranchAt, body_at};
+ghost use Rattle.tree_view.specs.ExprAt.{expr_at};
+ghost use Rattle.tree_view.specs.StmtAt.{block_at, BlockReads, BranchAt, body_at};
 ghost use Rattle.state.specs.State.{slot_names};
 ghost use Rattle.lower_forms.specs.Lowerable.{SoleIn};
 ghost use Rattle.lower_emit.specs.Emitting.{state_in};

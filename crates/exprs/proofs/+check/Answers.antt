@@ -2,11 +2,11 @@ use mathlib.Core.Path.{sym, ap, ◌∙◌}
 use Rattle.std.proofs.Common.{rules, arith}
 use Rattle.numerals.specs.Kinds.{expr_byte}
 use Rattle.parts.specs.Asked.{number_asked}
-use Rattle.parts.specs.Judge.{judge_expr, judge_two, judge_call, judge_args, judge_display, judge_tuple, judge_pairs, judge_attribute, judge_lambda, judge_unary, judge_binary}
-use Rattle.parts.specs.declared.roles.Role.TheVariants.{Value}
+use Rattle.tree_view.specs.Judge.{judge_expr, judge_two, judge_call, judge_args, judge_display, judge_tuple, judge_pairs, judge_attribute, judge_lambda, judge_unary, judge_binary}
+use Rattle.tree_view.specs.declared.roles.Role.TheVariants.{Value}
 use Rattle.parts.proofs.Steps.{step, stop, count-step, count-stop, noted, guard-step, guard-stop, along-start, along-next, along-stop, along-end}
 use Rattle.exprs.proofs.Checking.{expr-stop, expr-deep, expr-no-kind, expr-step, expr-constant, expr-eight, expr-values, many-turns, many-end, many-skip, tuple-role}
-use Rattle.exprs.proofs.ExprLaws.{at-string, at-var, at-unary, at-binary, at_call, at-attribute, at-dict, at-tuple, at-index, at-lambda}
+use Rattle.tree_view.proofs.ExprLaws.{at-string, at-var, at-unary, at-binary, at_call, at-attribute, at-dict, at-tuple, at-index, at-lambda}
 use Rattle.exprs.proofs.+check.Goals as goal
 
 pub check_attribute-returns-in_err-check_expr : goal.check_attribute-returns-in_err-check_expr

@@ -8,9 +8,9 @@ use lib.Seq.{length-take-le}
 use Rattle.definitions.specs.Instruction.{LoadAttr, instr}
 use Rattle.definitions.specs.Tables.{one, intern, ◌⨟◌}
 use Rattle.definitions.specs.Lower.{Callee, shortcut}
-use Rattle.parts.specs.Places.{count_at, name_end}
-use Rattle.exprs.specs.ExprAt.{expr_at, list_at}
-use Rattle.exprs.proofs.ExprViews.{expr-known}
+use Rattle.tree_view.specs.Places.{count_at, name_end}
+use Rattle.tree_view.specs.ExprAt.{expr_at, list_at}
+use Rattle.tree_view.proofs.ExprViews.{expr-known}
 use Rattle.state.specs.Words.{name_at}
 use Rattle.state.specs.State.{slot_names, slots_from}
 use Rattle.definitions.proofs.Growth.{lengthens-one, lengthens-intern, lengthens-seq, lengthens-exprs, lengthens-loads, lengthens-expr, lengthens-shortcut}

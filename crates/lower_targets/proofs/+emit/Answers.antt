@@ -4,8 +4,8 @@ use mathlib.Core.List.{[]}
 use native.Mathlib.Omega.{arith}
 use Rattle.numerals.specs.Kinds.{expr_byte}
 use Rattle.numerals.specs.declared.kinds.ExprKind.TheVariants.{Variable, Tuple}
-use Rattle.exprs.specs.ExprAt.{expr_at}
-use Rattle.exprs.proofs.ExprViews.{expr-inside, expr-known}
+use Rattle.tree_view.specs.ExprAt.{expr_at}
+use Rattle.tree_view.proofs.ExprViews.{expr-inside, expr-known}
 use Rattle.state.specs.State.{slot_names}
 use Rattle.definitions.proofs.Growth.{lengthens-unpack, lengthens-target}
 use Rattle.lower_forms.proofs.Unpacking.{tuple-read, target-deep, target-variable, target-tuple, target-tuple-is, elements-more, halves-read, later-read}

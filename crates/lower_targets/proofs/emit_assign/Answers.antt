@@ -1,7 +1,7 @@
 use mathlib.Core.Path.{refl, sym}
 use Rattle.numerals.specs.Kinds.{expr_byte}
 use Rattle.numerals.specs.declared.kinds.ExprKind.TheVariants.{Variable, Attribute, Tuple, Index}
-use Rattle.exprs.proofs.ExprViews.{expr-known}
+use Rattle.tree_view.proofs.ExprViews.{expr-known}
 use Rattle.lower_emit.proofs.Parts.{emits-by}
 use Rattle.lower_forms.proofs.Assigning.{assign-inside, arm-variable, arm-attribute, arm-tuple, arm-index, arm-other, second-at}
 use Rattle.lower_calls.proofs.Words.{nothing-emits}

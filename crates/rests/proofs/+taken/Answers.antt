@@ -1,9 +1,9 @@
 use native.Mathlib.Omega.{arith}
 use mathlib.Core.Path.{sym}
 use Rattle.numerals.specs.Kinds.{stmt_byte}
-use Rattle.tree.proofs.StmtViews.{stmt-inside, stmt-deep, stmt-known, view-if, view-while, view-for, view-def, view-class, view-block, else-inside}
+use Rattle.tree_view.proofs.StmtViews.{stmt-inside, stmt-deep, stmt-known, view-if, view-while, view-for, view-def, view-class, view-block, else-inside}
 use Rattle.rests.proofs.Taking.{takes_two, left-start, left-next, left-done, left-last}
-use Rattle.tree.proofs.StmtViews.{branches-within}
+use Rattle.tree_view.proofs.StmtViews.{branches-within}
 use Rattle.rests.proofs.StmtKinds.{stmt-within, body-within, def-within, plain-kind, simple-taken, pass-taken, if-taken, while-taken, for-taken, def-taken, class-methods, attributes-there, class-taken}
 use Rattle.rests.proofs.StmtKinds.{body_reads, body-taken, for-branch, for-body, def-reads, def-block, def-params}
 use Rattle.rests.proofs.StmtKinds.{stmts-head, stmts-step, stmts-end, stmts-none, stmts-start, block-taken, branches-head, branches-step, branches-last, branches-done, else-none, else-reads}

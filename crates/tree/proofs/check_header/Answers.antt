@@ -1,5 +1,5 @@
 use Rattle.tree.proofs.TreeLaws.{head-two, head_three, head-count, head-four, head-version, head-fine}
-use Rattle.parts.specs.Places.{count_at}
+use Rattle.tree_view.specs.Places.{count_at}
 use Rattle.tree.proofs.check_header.Goals as goal
 
 pub returns-then-len-gt-TREE_MOST : goal.returns-then-len-gt-TREE_MOST

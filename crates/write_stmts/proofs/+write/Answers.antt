@@ -7,10 +7,10 @@ use lib.Seq.{length-take-le}
 use Rattle.definitions.specs.Slots.{loops_branches}
 use Rattle.numerals.specs.Kinds.{stmt_byte}
 use Rattle.numerals.specs.declared.kinds.StmtKind.TheVariants.{Break, Continue, If, While, For, Def, Class}
-use Rattle.parts.specs.Places.{count_at, name_end}
-use Rattle.exprs.specs.ExprAt.{expr_at}
-use Rattle.tree.specs.StmtAt.{body_at, class_methods_at, block_at, branches_at}
-use Rattle.tree.proofs.LoopsAt.{block-loops, loops-at, no-else-loops, else-loops, if-loops, while-loops, for-loops, other-loops}
+use Rattle.tree_view.specs.Places.{count_at, name_end}
+use Rattle.tree_view.specs.ExprAt.{expr_at}
+use Rattle.tree_view.specs.StmtAt.{body_at, class_methods_at, block_at, branches_at}
+use Rattle.tree_view.proofs.LoopsAt.{block-loops, loops-at, no-else-loops, else-loops, if-loops, while-loops, for-loops, other-loops}
 use Rattle.state.specs.Words.{name_at}
 use Rattle.state.specs.State.{slots_from, slot_names}
 use Rattle.state.specs.Kept.{keeping_of, Spare}

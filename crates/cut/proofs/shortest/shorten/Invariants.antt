@@ -3,7 +3,7 @@ use mathlib.Core.Path.{◌≡◌}
 use mathlib.Core.Bool.{false}
 use Prim.Native.Nat.{◌≤◌}
 use Rattle.definitions.specs.Cut.{over_stretch}
-use Rattle.parts.specs.Places.{count_at}
+use Rattle.tree_view.specs.Places.{count_at}
 use Rattle.state.specs.State.{limits_of}
 use Rattle.compile.specs.Compiled.{tree_block}
 use Rattle.cut.specs.Seeking.{Best}

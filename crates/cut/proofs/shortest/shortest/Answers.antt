@@ -1,13 +1,13 @@
 use native.Mathlib.Omega.{arith}
-use Rattle.cut.proofs.Stretches.{top-counted, top-start, top-head, top-next}
-use Rattle.cut.proofs.Seeking.{seeks-by, best-begins, best-least, best-by, top-by}
+use Rattle.cut.proofs.Stretches.{top-counted, top-head, top-next}
+use Rattle.cut.proofs.Seeking.{seeks-by, best-least, best-by, top-by}
 use Rattle.cut.proofs.shortest.shortest.Goals as goal
 
 pub u16_at-count-requires : goal.u16_at-count-requires
 u16_at-count-requires c = top-counted c.requires.3.tree.block
 
 pub loop-i-init : goal.loop-i-init
-loop-i-init c = record { top = top-start c.requires.3.tree.block; best = best-begins c.requires.3 c.u16_at-count.ensures.0 }
+loop-i-init c = c.first_over-first.ensures
 
 pub shorten-best-requires : goal.shorten-best-requires
 shorten-best-requires c =

@@ -1,5 +1,5 @@
 use Rattle.state.specs.State.{limits_of}
-use Rattle.cut.proofs.Seeking.{Seeks}
+use Rattle.cut.specs.Seeking.{Seeks}
 use Rattle.cut.proofs.shortest.shortest.Given as goal
 
 abbrev pub invariant-loop-i : goal.invariant-loop-i

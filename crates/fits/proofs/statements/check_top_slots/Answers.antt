@@ -1,5 +1,5 @@
 use Rattle.definitions.specs.Fits.{fits_stmt}
-use Rattle.tree.specs.StmtAt.{stmt_at}
+use Rattle.tree_view.specs.StmtAt.{stmt_at}
 use Rattle.fits.proofs.StmtKinds.{top-told}
 use Rattle.slots.proofs.Adding.{none-slots}
 use mathlib.Core.Path.{refl}

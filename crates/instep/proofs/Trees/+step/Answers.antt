@@ -3,7 +3,7 @@ use mathlib.Core.Logic.{⊎_elim}
 use mathlib.Core.Path.{sym, ap, ◌∙◌}
 use Rattle.std.proofs.Common.{rules}
 use Rattle.numerals.specs.Kinds.{stmt_byte}
-use Rattle.tree.proofs.StmtViews.{stmt-inside, stmt-deep, stmt-known, view-expr, view-return, view-assign, view-if, view-while, view-for, view-def, view-class, view-block, else-inside}
+use Rattle.tree_view.proofs.StmtViews.{stmt-inside, stmt-deep, stmt-known, view-expr, view-return, view-assign, view-if, view-while, view-for, view-def, view-class, view-block, else-inside}
 use Rattle.instep.proofs.Stepping.{stopped, by-rank, ranked-same}
 use Rattle.instep.proofs.Parts.{expr-is, return-is, assign-is, if-is, while-is, for-is, def_is, stmt-begins, stmts-head, block_reads}
 use Rattle.instep.proofs.Ways.{begin-less, begin-greater, kind-steps, simple-steps, pair-start, pair-first, pair-second, pair-there, pair-next, pair-apart, pair_inside, pair-done}

@@ -1,6 +1,6 @@
 use native.Mathlib.Omega.{arith}
 use mathlib.Core.Path.{◌∙◌}
-use Rattle.tree.proofs.StmtViews.{stmt-inside}
+use Rattle.tree_view.proofs.StmtViews.{stmt-inside}
 use Rattle.instep.proofs.Parts.{stmts-head}
 use Rattle.instep.proofs.Ways.{counting-done, counting-pass, counting-kept}
 use Rattle.instep.proofs.spans.kept.Goals as goal

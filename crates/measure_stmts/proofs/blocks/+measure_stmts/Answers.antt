@@ -2,8 +2,8 @@
 use Prim.Native.Nat.{ℕ}
 use mathlib.Core.Path.{refl, sym, ap, ◌∙◌, subst}
 use native.Mathlib.Omega.{arith}
-use Rattle.parts.specs.Places.{ParamsAt, params_at}
-use Rattle.tree.proofs.StmtViews.{stmt-deep, stmt-inside, stmt-known, view-block, else-inside}
+use Rattle.tree_view.specs.Places.{ParamsAt, params_at}
+use Rattle.tree_view.proofs.StmtViews.{stmt-deep, stmt-inside, stmt-known, view-block, else-inside}
 use Rattle.measure_stmts.proofs.Knowledge.{there-expr, there_two, expr-sized, value-sized, assign-sized}
 use Rattle.measure_stmts.proofs.Walking.{stmt-jump, stmt-pass, value-reads, stmt-value, assign-seen, stmt-assign, if-seen, stmt-if, while-seen, stmt-while, for-seen, stmt-for}
 use Rattle.measure_stmts.proofs.Walking.{def-seen, stmt-def, class-seen, stmt-class, block-reads, branch-stopped, branch-done, branch-few, for-reads, for-stopped, for-done, for-few}

@@ -1,6 +1,6 @@
 -- A function for each kind of statement. The depth falls.
 use Prim.Native.Nat.{◌+◌, ◌-◌, ◌*◌}
-use Rattle.tree.specs.StmtAt.{block_at, branches_at, methods_at}
+use Rattle.tree_view.specs.StmtAt.{block_at, branches_at, methods_at}
 use Rattle.measure_stmts.proofs.Several.{StmtsLeft, BranchesLeft, MethodsLeft}
 use Rattle.measure_stmts.proofs.blocks.+measure_stmts.Given as goal
 

@@ -3,7 +3,7 @@ use mathlib.Core.Path.{refl}
 use Rattle.numerals.specs.Kinds.{expr_byte}
 use Rattle.numerals.specs.declared.kinds.ExprKind.TheVariants.{Variable, Tuple}
 use Rattle.opcodes.proofs.KindBytes.{byte-is, other-kind}
-use Rattle.exprs.proofs.ExprViews.{expr-inside, expr-deep, expr-known, view-var, view-tuple}
+use Rattle.tree_view.proofs.ExprViews.{expr-inside, expr-deep, expr-known, view-var, view-tuple}
 use Rattle.measure_stmts.proofs.Targeting.{target-var, target-tuple, target_none, elements-start, elements-head, elements-few, elements-next, elements-done}
 use Rattle.measure_stmts.proofs.targets.+measure_targets.Goals as goal
 

@@ -5,8 +5,8 @@ use mathlib.Core.Path.{refl, sym, subst}
 use Rattle.numerals.specs.Kinds.{expr_byte}
 use Rattle.numerals.specs.declared.kinds.ExprKind.TheVariants.{Variable, Attribute, Tuple, Index}
 use Rattle.opcodes.proofs.KindBytes.{byte-is, other-kind}
-use Rattle.parts.specs.Places.{There}
-use Rattle.exprs.proofs.ExprViews.{expr-inside, expr-deep, expr-known, view-var, view-attribute, view-tuple, view-index}
+use Rattle.tree_view.specs.Places.{There}
+use Rattle.tree_view.proofs.ExprViews.{expr-inside, expr-deep, expr-known, view-var, view-attribute, view-tuple, view-index}
 use Rattle.measure.proofs.Measuring.{few}
 use Rattle.measure_stmts.proofs.Targeting.{second-var, second-attribute, second-tuple, tuple-few, index-there, second-index, index-few}
 use Rattle.measure_stmts.proofs.Targeting.{assign-var, assign-attribute, assign-tuple, assign-index, assign_other}

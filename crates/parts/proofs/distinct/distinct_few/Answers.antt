@@ -1,5 +1,5 @@
 use mathlib.Core.Path.{refl, sym, ◌∙◌}
-use Rattle.parts.proofs.NameLaws.{there-first, there-next, distinct-stop, distinct-go, distinct_none}
+use Rattle.tree_view.proofs.NameLaws.{there-first, there-next, distinct-stop, distinct-go, distinct_none}
 use Rattle.parts.proofs.distinct.distinct_few.Goals as goal
 
 pub loop-after-init : goal.loop-after-init

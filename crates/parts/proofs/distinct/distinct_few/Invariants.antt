@@ -1,5 +1,5 @@
 use mathlib.Core.Path.{◌≡◌}
-use Rattle.parts.specs.Places.{names_from, AllThere}
+use Rattle.tree_view.specs.Places.{names_from, AllThere}
 use Rattle.definitions.specs.Wellformed.{distinct}
 use Rattle.parts.proofs.distinct.distinct_few.Given as goal
 

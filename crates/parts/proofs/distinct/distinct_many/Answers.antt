@@ -1,4 +1,4 @@
-use Rattle.parts.proofs.NameLaws.{there-first}
+use Rattle.tree_view.proofs.NameLaws.{there-first}
 use Rattle.parts.proofs.SearchLaws.{sift-start, sift-asks, sift-there, sift-next, sift-twice, sift-end, puts-new, puts-twice}
 use Rattle.parts.proofs.distinct.distinct_many.Goals as goal
 

@@ -1,4 +1,4 @@
-use Rattle.parts.proofs.NameLaws.{same-as, occurs-again, there-first, member-found, member-none}
+use Rattle.tree_view.proofs.NameLaws.{same-as, occurs-again, there-first, member-found, member-none}
 use mathlib.Core.Path.{◌≡◌, sym, ◌∙◌}
 use Rattle.std.proofs.Common.{◌+◌, ◌-◌, arith}
 use Rattle.parts.proofs.distinct.occurs.Goals as goal

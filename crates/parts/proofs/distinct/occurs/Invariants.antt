@@ -1,6 +1,6 @@
 use Prim.Native.Nat.{◌-◌}
 use mathlib.Core.Path.{◌≡◌}
-use Rattle.parts.specs.Places.{name_from, names_from, AllThere}
+use Rattle.tree_view.specs.Places.{name_from, names_from, AllThere}
 use Rattle.definitions.specs.Bytes.{member}
 use Rattle.parts.proofs.distinct.occurs.Given as goal
 

@@ -2,7 +2,7 @@ use mathlib.Core.Path.{refl}
 use Prim.Native.Nat.{◌+◌}
 use native.Mathlib.Omega.{arith}
 use Rattle.parts.specs.Search.{PutsName}
-use Rattle.parts.proofs.NameLaws.{same-as}
+use Rattle.tree_view.proofs.NameLaws.{same-as}
 use Rattle.parts.proofs.SearchLaws.{seek-start, put-twice, put_next, put-here, entry-low}
 use Rattle.parts.proofs.distinct.put_name.Goals as goal
 

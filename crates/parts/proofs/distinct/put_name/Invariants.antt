@@ -1,4 +1,4 @@
-use Rattle.parts.specs.Places.{name_from, names_from}
+use Rattle.tree_view.specs.Places.{name_from, names_from}
 use Rattle.parts.specs.Search.{Searches}
 use Rattle.parts.proofs.SearchLaws.{Seeking}
 use Rattle.parts.proofs.distinct.put_name.Given as goal

@@ -1,7 +1,7 @@
 use native.Mathlib.Omega.{arith}
 use mathlib.Core.Path.{refl, sym}
 use Rattle.numerals.specs.Kinds.{expr_byte}
-use Rattle.exprs.proofs.ExprViews.{expr-inside, expr-deep, expr-known, view-string, view-var, view-unary, view-binary, view-call, view-attribute, view-dict, view-index, view-lambda}
+use Rattle.tree_view.proofs.ExprViews.{expr-inside, expr-deep, expr-known, view-string, view-var, view-unary, view-binary, view-call, view-attribute, view-dict, view-index, view-lambda}
 use Rattle.slots.proofs.KindGroups.{constant-byte, number-byte, display-byte}
 use Rattle.slots.proofs.Kinded.{seen-display}
 use Rattle.slots.proofs.Skipping.{plain_done, number-done, string-done, var-done, unary-done, binary-done, call-done, attribute-done, display-done, dict-done, index-done, lambda-done, exprs-head, exprs-done}

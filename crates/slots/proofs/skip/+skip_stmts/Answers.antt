@@ -1,7 +1,7 @@
 use native.Mathlib.Omega.{arith}
 use mathlib.Core.Path.{sym}
 use Rattle.numerals.specs.Kinds.{stmt_byte}
-use Rattle.tree.proofs.StmtViews.{stmt-inside, stmt-deep, stmt-known, view-assign, view-if, view-while, view-for, view-def, view-class, view-block, else-inside}
+use Rattle.tree_view.proofs.StmtViews.{stmt-inside, stmt-deep, stmt-known, view-assign, view-if, view-while, view-for, view-def, view-class, view-block, else-inside}
 use Rattle.slots.proofs.KindGroups.{word-byte, value-byte}
 use Rattle.slots.proofs.SkippingStmts.{short-done, value-reads, value-done, assign-done, if-done, while-done, for-done, def-done, class-done}
 use Rattle.slots.proofs.SkippingStmts.{stmts-head, stmts-done, branches-head, branches-last, branches-done, else-none, else-reads, else-done}

@@ -1,5 +1,5 @@
 use native.Mathlib.Omega.{arith}
-use Rattle.tree.proofs.StmtViews.{view-attributes}
+use Rattle.tree_view.proofs.StmtViews.{view-attributes}
 use Rattle.slots.proofs.SkippingStmts.{values-name, values-value, values-done}
 use Rattle.slots.proofs.skip.skip_attributes.Goals as goal
 

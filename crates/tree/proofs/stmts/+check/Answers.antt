@@ -1,11 +1,11 @@
 use mathlib.Core.Path.{sym, ap, ◌∙◌}
 use Rattle.std.proofs.Common.{rules, arith}
 use Rattle.numerals.specs.Kinds.{stmt_byte}
-use Rattle.parts.specs.Judge.{judge_branch, judge_if, judge_for, judge_def, judge_method, judge_class}
+use Rattle.tree_view.specs.Judge.{judge_branch, judge_if, judge_for, judge_def, judge_method, judge_class}
 use Rattle.parts.proofs.Steps.{step, stop, count-step, count-stop, done, along-start, along-next, along-stop, along-end}
 use Rattle.tree.proofs.Checking.{stmt-stop, stmt-deep, stmt-no-kind, kind-step, stmt-leaves, stmt-value, stmts-turns, elifs-turns, methods-turns}
 use Rattle.tree.proofs.Checking.{stmts-end, elifs-end, methods-end, block-stop, block-step, else-stop, else-done, else-step, else-no-byte}
-use Rattle.tree.proofs.StmtLaws.{at-pass, at-assign, at-if, at-while, at-for, at-def, at-class}
+use Rattle.tree_view.proofs.StmtLaws.{at-pass, at-assign, at-if, at-while, at-for, at-def, at-class}
 use Rattle.tree.proofs.stmts.+check.Goals as goal
 
 pub check_block-returns-in_err-n : goal.check_block-returns-in_err-n

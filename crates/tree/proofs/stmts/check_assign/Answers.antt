@@ -1,5 +1,5 @@
 use Rattle.std.proofs.Common.{rules}
-use Rattle.parts.specs.Judge.{judge_assign}
+use Rattle.tree_view.specs.Judge.{judge_assign}
 use Rattle.parts.proofs.Steps.{step, stop}
 use Rattle.tree.proofs.stmts.check_assign.Goals as goal
 

@@ -1,5 +1,5 @@
 use Rattle.std.proofs.Common.{rules}
-use Rattle.parts.specs.Judge.{judge_attribute_value}
+use Rattle.tree_view.specs.Judge.{judge_attribute_value}
 use Rattle.parts.proofs.Steps.{step, stop}
 use Rattle.tree.proofs.stmts.check_value.Goals as goal
 

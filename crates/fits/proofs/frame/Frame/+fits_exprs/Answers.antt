@@ -2,8 +2,8 @@ use native.Mathlib.Omega.{arith}
 use mathlib.Core.Path.{refl, sym, ap, ◌∙◌}
 use Rattle.numerals.specs.Kinds.{expr_byte}
 use Rattle.state.specs.State.{slot_names}
-use Rattle.parts.specs.Places.{name_end}
-use Rattle.exprs.proofs.ExprViews.{expr-inside, expr-deep, expr-known, view-unary, view-binary, view-call, view-attribute, view-dict, view-index, view-lambda, view-exprs-more}
+use Rattle.tree_view.specs.Places.{name_end}
+use Rattle.tree_view.proofs.ExprViews.{expr-inside, expr-deep, expr-known, view-unary, view-binary, view-call, view-attribute, view-dict, view-index, view-lambda, view-exprs-more}
 use Rattle.slots.proofs.Kinded.{seen-display}
 use Rattle.fits.proofs.Walking.{stopped, walks_next, walks-over, next-walks, over-walks, first-over, second_walks, left-start, left-next, left_over, left-done, lambda-over, slots-few, lambda-slotted}
 use Rattle.fits.proofs.ExprKinds.{fits-unary, fits-binary, fits-call, fits-attribute, fits-dict, fits-display, fits-index, fits-lambda}

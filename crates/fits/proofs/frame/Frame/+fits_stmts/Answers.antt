@@ -3,7 +3,8 @@ use mathlib.Core.Logic.{⊎_elim}
 use mathlib.Core.Path.{sym, ap, ◌∙◌}
 use Rattle.numerals.specs.Kinds.{stmt_byte}
 use Rattle.state.specs.State.{slot_names}
-use Rattle.tree.proofs.StmtViews.{stmt-inside, stmt-deep, stmt-known, view-expr, view-return, view-assign, view-if, view-while, view-for, view-def, view-class, view-block, view-stmts-more, view-branches-more, view-methods-more, else-inside}
+use Rattle.tree_view.proofs.StmtViews.{stmt-inside, stmt-deep, stmt-known, view-expr, view-return, view-assign, view-if, view-while, view-for}
+use Rattle.tree_view.proofs.StmtViews.{view-def, view-class, view-block, view-stmts-more, view-branches-more, view-methods-more, else-inside}
 use Rattle.slots.proofs.Gathering.{elifs-counted, elifs-read, elifs-are, else-reads}
 use Rattle.fits.proofs.Walking.{stopped, walks_next, first-over, second_walks, left-start, left-next, left_over, left-done, def-over, def-few, def-slotted}
 use Rattle.fits.proofs.ExprKinds.{long-enough}

@@ -1,7 +1,7 @@
 use mathlib.Core.Logic.{⊎_elim}
 use mathlib.Core.Path.{sym, ap, ◌∙◌}
 use Rattle.numerals.specs.Kinds.{expr_byte}
-use Rattle.exprs.proofs.ExprViews.{expr-inside, expr-known}
+use Rattle.tree_view.proofs.ExprViews.{expr-inside, expr-known}
 use Rattle.fits.proofs.ExprKinds.{target-attribute, target-index, target-other, no-attribute, no-index}
 use Rattle.fits.proofs.frame.Frame.target.Goals as goal
 

@@ -4,10 +4,10 @@ use Prim.Native.Nat.{ℕ}
 use Rattle.numerals.specs.Kinds.{expr_byte}
 use Rattle.numerals.specs.declared.kinds.ExprKind.TheVariants.{Variable, Unary, Binary, Call, Attribute, Dict, Index, Lambda}
 use Rattle.opcodes.proofs.KindBytes.{byte-is}
-use Rattle.parts.specs.Places.{name_end}
-use Rattle.parts.proofs.LeafNodes.{name-after}
-use Rattle.exprs.specs.ExprAt.{ListAt}
-use Rattle.exprs.proofs.ExprViews.{expr-inside, expr-deep, expr-known, view-var, view-unary, view-binary, view-call, view-attribute, view-dict, view-index, view-lambda}
+use Rattle.tree_view.specs.Places.{name_end}
+use Rattle.tree_view.proofs.LeafNodes.{name-after}
+use Rattle.tree_view.specs.ExprAt.{ListAt}
+use Rattle.tree_view.proofs.ExprViews.{expr-inside, expr-deep, expr-known, view-var, view-unary, view-binary, view-call, view-attribute, view-dict, view-index, view-lambda}
 use Rattle.slots.proofs.KindGroups.{literal-byte, display-byte}
 use Rattle.slots.proofs.Kinded.{seen-display}
 use Rattle.measure.proofs.Measuring.{few, one-more, more-sized, more-most, literal-ahead, call-done, two-done, moved-expr, exprs-start, exprs-head, exprs-next, exprs-done}

@@ -4,7 +4,7 @@ use mathlib.Core.Bool.{Bool, true, false}
 use Rattle.numerals.specs.Kinds.{expr_byte}
 use Rattle.numerals.specs.declared.kinds.ExprKind.TheVariants.{Variable, Attribute}
 use Rattle.opcodes.proofs.KindBytes.{byte-is, other-kind}
-use Rattle.exprs.proofs.ExprViews.{expr-inside, expr-known}
+use Rattle.tree_view.proofs.ExprViews.{expr-inside, expr-known}
 use Rattle.measure.proofs.Measuring.{more-method, more-name, more-other}
 use Rattle.measure.proofs.measurer.Measurer.call_more.Goals as goal
 

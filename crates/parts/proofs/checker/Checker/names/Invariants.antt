@@ -1,5 +1,5 @@
 use Rattle.std.proofs.Common.{◌-◌}
-use Rattle.parts.specs.Judge.{judge_names}
+use Rattle.tree_view.specs.Judge.{judge_names}
 use Rattle.parts.proofs.Steps.{Along}
 use Rattle.parts.proofs.checker.Checker.names.Given as goal
 

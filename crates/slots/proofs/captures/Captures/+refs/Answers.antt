@@ -2,7 +2,7 @@
 use native.Mathlib.Omega.{arith}
 use mathlib.Core.Path.{refl, sym}
 use Rattle.numerals.specs.Kinds.{expr_byte}
-use Rattle.exprs.proofs.ExprViews.{expr-inside, expr-deep, expr-known, view-var, view-unary, view-binary, view-call, view-attribute, view-dict, view-index, view-lambda}
+use Rattle.tree_view.proofs.ExprViews.{expr-inside, expr-deep, expr-known, view-var, view-unary, view-binary, view-call, view-attribute, view-dict, view-index, view-lambda}
 use Rattle.slots.proofs.KindGroups.{literal-byte, display-byte}
 use Rattle.slots.proofs.Kinded.{seen-display}
 use Rattle.slots.proofs.Referring.{refers-as, refers-literal, refers-var, refers-unary, refers-binary, refers-display, refers-dict, refers-two, refers-call, refers-attribute, refers-lambda, exprs-start, exprs-head, exprs-next, exprs-done}

@@ -4,9 +4,9 @@ use Prim.Native.Nat.{ℕ}
 use mathlib.Core.Path.{refl, sym, ap, ◌∙◌}
 use mathlib.Core.List.{List}
 use Rattle.definitions.specs.Tree.{Stmt}
-use Rattle.parts.specs.Places.{Node}
-use Rattle.tree.specs.StmtAt.{stmt_at, block_at}
-use Rattle.tree.proofs.StmtViews.{stmt-inside, stmt-known, stmt-deep, view-block, else-inside}
+use Rattle.tree_view.specs.Places.{Node}
+use Rattle.tree_view.specs.StmtAt.{stmt_at, block_at}
+use Rattle.tree_view.proofs.StmtViews.{stmt-inside, stmt-known, stmt-deep, view-block, else-inside}
 use Rattle.slots.proofs.Steps.{adds-counted, gathers-as}
 use Rattle.slots.proofs.Gathering.{assign-seen, if-seen, while-seen, for-seen, while-done, plain-gathered, value-reads, value-gathered, named-there, named-stopped, named-gathered}
 use Rattle.slots.proofs.Gathering.{block-reads, stmts-start, stmts-head, stmts-stopped, stmts-next, stmts-done, branches-head, branches-stopped, branches-next, branches-last, branches-done, else-none, else-reads, else-some}

@@ -1,7 +1,7 @@
 -- The depth falls.
 use Prim.Native.Nat.{◌+◌, ◌-◌, ◌*◌}
 use Rattle.definitions.specs.Slots.{locals_block, locals_branches, loops_block, loops_branches}
-use Rattle.tree.specs.StmtAt.{block_at, stmts_at, branches_at, StmtsRead, BranchesRead}
+use Rattle.tree_view.specs.StmtAt.{block_at, stmts_at, branches_at, StmtsRead, BranchesRead}
 use Rattle.slots.proofs.Steps.{Left}
 use Rattle.slots.proofs.walk.Gathering.+gather.Given as goal
 

@@ -3,8 +3,8 @@ use native.Mathlib.Omega.{arith}
 use Prim.Native.Nat.{ℕ, ◌+◌}
 use mathlib.Core.Path.{sym, ap, ◌∙◌, subst}
 use mathlib.Core.List.{List}
-use Rattle.parts.specs.Places.{There, name_end}
-use Rattle.exprs.proofs.ExprViews.{expr-inside, expr-deep, expr-known}
+use Rattle.tree_view.specs.Places.{There, name_end}
+use Rattle.tree_view.proofs.ExprViews.{expr-inside, expr-deep, expr-known}
 use Rattle.slots.proofs.Targeting.{var-there, var-gathered, var-stopped, tuple-list, tuple-reads, tuple-gathered, other-gathered, targets-head, targets-stopped, targets_next, targets-done}
 use Rattle.slots.proofs.walk.Gathering.+gather_targets.Goals as goal
 

@@ -1,7 +1,7 @@
 -- The depth falls.
 use Prim.Native.Nat.{◌+◌, ◌-◌}
 use Rattle.definitions.specs.Slots.{add_targets}
-use Rattle.exprs.specs.ExprAt.{exprs_at, ExprsRead}
+use Rattle.tree_view.specs.ExprAt.{exprs_at, ExprsRead}
 use Rattle.slots.specs.Gathered.{no_loops}
 use Rattle.slots.proofs.Steps.{Left}
 use Rattle.slots.proofs.walk.Gathering.+gather_targets.Given as goal

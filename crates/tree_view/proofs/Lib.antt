@@ -1,0 +1,12 @@
+pub mod Laws
+pub mod LeafLaws
+pub mod NameLaws
+pub mod Nodes
+pub mod LeafNodes
+pub mod ExprLaws
+pub mod ExprViews
+pub mod Operators
+pub mod OtherForms
+pub mod StmtLaws
+pub mod StmtViews
+pub mod LoopsAt
