@@ -24,7 +24,7 @@ use Rattle.compile.specs.Compiled.{tree_block, CompilesTree}
 use Rattle.compile.specs.declared.Stretch.{Stretch}
 use Rattle.settle.proofs.Settling.{compiled-over, compiled-fits}
 use Rattle.cut.specs.Tops.{TopAt}
-use Rattle.cut.specs.Seeking.{Large, Best, Seeks, Tops, Least}
+use Rattle.cut.specs.Seeking.{Large, Best, SeeksFrom, Tops, Least}
 use Rattle.cut.proofs.Stretches.{top-start, top-next, top-later, size-tree, stretch-value}
 
 -- ---- one lowering
@@ -85,7 +85,7 @@ module _ {l : DefinedLimits} {t : List ℕ} (L : Large l t) where
     fewer-under : (m : ℕ) → m ≤ k → (j : ℕ) → j < i → over_stretch l b j m ≡ false
     fewer-under m h j g = none-over l b j k (suc k) (inl (omega arith)) (U.under j g) m (omega arith)
 
-    pub under-here : (m : ℕ) → m ≤ k → over_stretch l b i m ≡ true → Seeks l t i p (record { at = p; count = m })
+    pub under-here : (m : ℕ) → m ≤ k → over_stretch l b i m ≡ true → SeeksFrom l t i p (record { at = p; count = m })
     under-here m h e = record {
       top = U.top;
       best = record { start = i; top = U.top; hit = e; first = fewer-under m h; shorter = λ j r g f. fewer-under r (omega arith) j g };
@@ -157,7 +157,7 @@ top-by {t} {b} {p = p} e T = subst (λ (x : ℕ). TopAt t b x p) (sym e) T
 pub best-by : {l : DefinedLimits} {t : List ℕ} {i j : ℕ} {s : Stretch} → j ≡ i → Best l t i s → Best l t j s
 best-by {l} {t} {s = s} e B = subst (λ (x : ℕ). Best l t x s) (sym e) B
 
-pub seeks-by : {l : DefinedLimits} {t : List ℕ} {i j k p q : ℕ} {s : Stretch} → k ≡ i → k ≡ j → q ≡ p → TopAt t (tree_block t) i p → Best l t j s → Seeks l t k q s
+pub seeks-by : {l : DefinedLimits} {t : List ℕ} {i j k p q : ℕ} {s : Stretch} → k ≡ i → k ≡ j → q ≡ p → TopAt t (tree_block t) i p → Best l t j s → SeeksFrom l t k q s
 seeks-by {l} {t} {i = i} {q = q} {s = s} e f g T B = record {
   top = subst (λ (x : ℕ). TopAt t (tree_block t) x q) (sym e) (subst (λ (x : ℕ). TopAt t (tree_block t) i x) (sym g) T);
   best = best-by f B;

@@ -26,7 +26,7 @@ pub record Best (l : Limits) (t : List ℕ) (i : ℕ) (s : Stretch) : Type 0 whe
   pub shorter : (j m : ℕ) → j < i → m < s.count → over_stretch l (tree_block t) j m ≡ false
 
 -- the i-th statement stands at p, and none shorter begins before it
-pub record Seeks (l : Limits) (t : List ℕ) (i p : ℕ) (s : Stretch) : Type 0 where
+pub record SeeksFrom (l : Limits) (t : List ℕ) (i p : ℕ) (s : Stretch) : Type 0 where
   pub top : TopAt t (tree_block t) i p
   pub best : Best l t i s
 

@@ -3,7 +3,7 @@
 ghost use Rattle.std.specs.Prelude.{◌≡◌, ◌≤◌, ◌-◌, length};
 ghost use Rattle.tree_view.specs.Places.{count_at};
 ghost use Rattle.state.specs.State.{limits_of, Limited};
-ghost use Rattle.cut.specs.Seeking.{Large, Seeks, Tops};
+ghost use Rattle.cut.specs.Seeking.{Large, SeeksFrom, Tops};
 
 use crate::shortest::over;
 use crate::write::stretch_end;
@@ -79,7 +79,7 @@ pub(crate) fn first_over(
     limits: Limits,
 ) -> (u32, Stretch)
     requires { (16384 ≤ length code.old) × (16384 ≤ length tables.old) × Limited limits × Large (limits_of limits) tree.now }
-    ensures { Seeks (limits_of limits) tree.now result.0 result.1.at result.1 }
+    ensures { SeeksFrom (limits_of limits) tree.now result.0 result.1.at result.1 }
 {
     let likely = likely_count(tree, code, tables, limits);
     let count = u16_at(tree, HEAD);
