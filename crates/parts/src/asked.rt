@@ -20,7 +20,7 @@ pub enum BlockQuestion {
 }
 
 // How many questions are asked of a block.
-pub(crate) const QUESTIONS: u32 = 9;
+pub const QUESTIONS: u32 = 9;
 
 impl BlockQuestion {
     // Its place in the order in which the questions are asked.

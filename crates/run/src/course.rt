@@ -11,7 +11,7 @@ use reader::{jump_target, number_at};
 
 // Where a run stands: steps, answers used, event bytes, and the place of the next instruction.
 #[derive(Clone, Copy)]
-pub(crate) struct Stand {
+pub struct Stand {
     pub steps: u64,
     pub used: usize,
     pub written: usize,
@@ -20,7 +20,7 @@ pub(crate) struct Stand {
 
 // What comes after a jump, a question or a Return: the run stands elsewhere, or it is over.
 #[derive(Clone, Copy)]
-pub(crate) enum Turned {
+pub enum Turned {
     On(Stand),
     Over(Ending, Stand),
 }

@@ -27,13 +27,14 @@ fn fill(events: &mut [u8]) {
     }
 }
 
-// Whether the bytes from `from` on have their pattern.
+// Whether the bytes from `from` on have their pattern. By a chain with `skip` and `all` a replay takes a quarter longer.
 fn is_kept(events: &[u8], from: usize) -> bool {
-    events
-        .iter()
-        .enumerate()
-        .skip(from)
-        .all(|(i, event)| *event == pattern(i))
+    for i in from..events.len() {
+        if events[i] != pattern(i) {
+            return false;
+        }
+    }
+    true
 }
 
 // The answer, and `touched` where the events after those that it counts have changed.
