@@ -1,24 +1,29 @@
--- Assignments by the laws of the state: elements of a tuple target, and values after an object.
-use Prim.Native.Nat.{ℕ, ◌+◌, ◌-◌, ◌≤◌}
-use mathlib.Core.Path.{◌≡◌, sym, ap, ◌∙◌}
+-- Assignments by the laws of the state: elements of a tuple target, constants, and values after an object.
+use Prim.Native.Nat.{ℕ, ◌+◌, ◌-◌, ◌<◌, ◌≤◌}
+use mathlib.Core.Path.{◌≡◌, refl, sym, ap, ◌∙◌}
 use mathlib.Core.List.{List, []}
+use native.Mathlib.Omega.{arith}
 use lib.ListN.{length, get_or}
 use Rattle.std.specs.Prelude.{Option, Some}
 use Rattle.definitions.specs.Bytes.{Name}
-use Rattle.definitions.specs.Instruction.{ConstI64, LoadIndex, StoreAttr, StoreIndex}
+use Rattle.definitions.specs.Instruction.{instr, ConstI64, LoadIndex, StoreAttr, StoreIndex}
 use Rattle.definitions.specs.Tables.{Emit, emits, one, intern, ◌⨟◌}
 use Rattle.definitions.specs.Lower.{copy, emit_target, unpack}
 use Rattle.tree_view.specs.Places.{name_end}
 use Rattle.tree_view.specs.ExprAt.{expr_at, ExprReads}
-use Rattle.state.specs.Words.{name_at}
+use Rattle.state.specs.Words.{name_at, word}
 use Rattle.state.specs.State.{State, emit_at}
 use Rattle.state.proofs.Answers.{base-below}
 use Rattle.state.proofs.Emission.{at-nothing, at-seq}
-use Rattle.lower_forms.specs.Lowerable.{expr_code}
+use Rattle.lower_forms.specs.Lowerable.{Lowerable, expr_code}
 use Rattle.lower_forms.specs.Elements.{elements_at, elements_end}
+use Rattle.lower_forms.proofs.Constants.{arm-constant}
+use Rattle.lower_forms.proofs.ExprArms.{lowerable-at}
 use Rattle.lower_forms.proofs.Unpacking.{later_first, none-unpacked, one-unpacked, element-is, target-nothing}
 use Rattle.lower_emit.specs.declared.emitter.Emitter.{Emitter}
-use Rattle.lower_emit.specs.Emitting.{counts_of, limits_in, state_in, SoundIn, EmitsTo}
+use Rattle.lower_emit.specs.Emitting.{counts_of, limits_in, state_in, SoundIn, LowersIn, EmitsTo, Puts}
+use Rattle.lower_emit.proofs.Packing.{instr-plain, plain-below}
+use Rattle.lower_emit.proofs.Steps.{put-lifts, lowers-by}
 use Rattle.lower_emit.proofs.Parts.{emits_then}
 use Rattle.lower_calls.proofs.Words.{emits_at}
 
@@ -52,6 +57,25 @@ module _ {t : List ℕ} {a : Emitter} (S : SoundIn t a) (d : ℕ) (names : List 
 -- the answer for the expression at p, with the position by other words
 pub expr-by : {t : List ℕ} {p q : ℕ} {r : Option ℕ} {a b : Emitter} (d : ℕ) (names : List Name) → p ≡ q → EmitsTo r (expr_code d t names p) (expr_at d t p).end t a b → EmitsTo r (expr_code d t names q) (expr_at d t q).end t a b
 expr-by {t} d names e h = emits_at (λ x. expr_code d t names x) (λ x. (expr_at d t x).end) e h
+
+-- ---- None, False or True at p, by its kind byte k: its word, and where it ends, with the position by other words
+
+module _ {t : List ℕ} {p q k op : ℕ} (d : ℕ) (v : Lowerable d t p) (e : q ≡ p) (byte : k ≡ get_or t q 0) (c : (k < 3) × (op ≡ 5 - k)) where
+  small : get_or t q 0 < 3
+  small = omega (arith, c.0, byte)
+
+  by-byte : op ≡ 5 - get_or t q 0
+  by-byte = omega (arith, c.1, byte)
+
+  pub constant-lowers : {A : Type 0} {u : Option A} {a b : Emitter} (names : List Name) → SoundIn t a → b.tables ≡ a.tables → Puts u (word op 0 0) a.code b.code → LowersIn u (expr_code d t names p) t a b
+  constant-lowers names S same g =
+      let code = (arm-constant d t q (lowerable-at d t p q e v) (get_or t q 0) refl small).code names in
+      lowers-by
+      (put-lifts S same (instr-plain t op 0 0 (plain-below op 0 0 (omega (arith, c)) (omega (arith, c)) (omega arith) (omega arith))) g)
+      (ap (expr_code d t names) (sym e) ∙ code ∙ ap (λ (i : ℕ). one (instr i 0 0)) (sym by-byte))
+
+  pub constant-end : q + 1 ≡ (expr_at d t p).end
+  constant-end = sym (arm-constant d t q (lowerable-at d t p q e v) (get_or t q 0) refl small).end ∙ ap (λ (x : ℕ). (expr_at d t x).end) e
 
 -- ---- what follows an object that ends at x
 

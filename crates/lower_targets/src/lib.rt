@@ -3,10 +3,11 @@
 // of the tree (ExprReads, AssignLowerable) is said of the place that a call names, so it belongs to no value that lives on.
 #![tactic(auto)]
 
-ghost use Rattle.std.specs.Prelude.{◌+◌, ◌-◌, ◌≤◌};
+ghost use Rattle.std.specs.Prelude.{◌≡◌, ◌+◌, ◌-◌, ◌<◌, ◌≤◌, MatchOption};
 ghost use Rattle.definitions.specs.Instruction.{StoreAttr, StoreIndex};
 ghost use Rattle.definitions.specs.Tables.{one, ◌⨟◌, intern};
 ghost use Rattle.definitions.specs.Lower.{store, emit_target, unpack};
+ghost use Rattle.numerals.specs.Kinds.{expr_byte};
 ghost use Rattle.tree_view.specs.Places.{count_at, name_end};
 ghost use Rattle.tree_view.specs.ExprAt.{expr_at, second_at, ExprReads};
 ghost use Rattle.state.specs.Words.{name_at};
@@ -21,7 +22,7 @@ use lower_expr::emit_expr;
 use lower_leaves::elements::{put_element, skip_exprs};
 use lower_names::{emit_store, emit_symbol};
 use numerals::kinds::ExprKind;
-use numerals::ops::{STORE_ATTR, STORE_INDEX};
+use numerals::ops::{FALSE, NONE, STORE_ATTR, STORE_INDEX, TRUE};
 use slots::skip::skip_expr;
 use state::Scope;
 use tree_view::names::name_end;
@@ -68,13 +69,32 @@ fn emit_elements(
     emit_elements(s, e, at, depth, half, i)
 }
 
-// To the variable whose name is at `at`.
+// The opcode of None, False or True; none of another kind.
+#[tactic(auto, unfolding(numerals::specs::Kinds::expr_byte))]
+fn constant_op(kind: ExprKind) -> Option<u32>
+    ensures { MatchOption result (2 < expr_byte kind) (λ op. (expr_byte kind < 3) × (op ≡ 5 - expr_byte kind)) }
+{
+    match kind {
+        ExprKind::NoneLiteral => Some(NONE),
+        ExprKind::False => Some(FALSE),
+        ExprKind::True => Some(TRUE),
+        _ => None,
+    }
+}
+
+// To the variable whose name is at `at`; None, False or True by a word alone.
 fn assign_variable(s: Scope<'_>, e: &mut Emitter<'_>, at: usize, depth: u32) -> Option<usize>
     requires { SoleIn s.tree.now e.old × VariableAssigned depth s.tree.now at }
     ensures { let t = s.entry.tree.now in let names = slot_names t s.entry.slots.now in
         EmitsTo result (expr_code depth t names (name_end t at) ⨟ store names (name_at t at)) (expr_at depth t (name_end t at)).end t e.old e.new }
 {
-    let next = emit_expr(s, e, name_end(s.tree, at), depth)?;
+    let start = name_end(s.tree, at);
+    if let Some(op) = constant_op(ExprKind::of(s.tree[start])) {
+        e.code.put_op(op, 0, 0)?;
+        emit_store(s, e, at)?;
+        return Some(start + 1);
+    }
+    let next = emit_expr(s, e, start, depth)?;
     emit_store(s, e, at)?;
     Some(next)
 }

@@ -156,10 +156,31 @@ module _ (d : ℕ) (a b : Captures) (p q : ℕ) (f : Refers q (expr_at d (tree_o
   unfolding held_expr attribute_at
   refers-attribute o e = record { next-is = e ∙ ap₂ (λ (s : Scope) (x : ℕ). name_end s.tree.now x) f.keeps.same_around f.next-is; keeps = f.keeps }
 
--- ---- a lambda: its parameters are marked, its body begins at q, where they end, and is walked from a' to b, and c has the marks of a again
+-- ---- a lambda: its parameters are marked from a to a', its body begins at q, where they end, and is walked from a' to b
 
 pub body-there : (d : ℕ) (t : List ℕ) (p q : ℕ) → q ≡ (params_at t p).end → LambdaAt d t p → ExprReads d t q
 body-there d t p q e h = subst (λ (m : ℕ). ExprReads d t m) (sym e) h.body
+
+module _ (a a' b : Captures) (ms : List Bool) (m : MarksSlots ms a a') (d q o : ℕ) (r : Refers o (expr_at d (tree_of a') q) held_expr a' b) where
+  -- what is kept from a on stands where a was lent it
+  pub body-lent : a.kept.ghost_name ≡ b.kept.ghost_name
+  body-lent = sym (r.keeps.same_kept ∙ ap (λ (x : MutBor (List ℕ)). x.ghost_name) m.same_kept)
+
+  -- and is ps after the loan
+  module _ (ps : List ℕ) (e : ps ≡ b.kept.now) where
+    pub body-most : slots_from + b.n ≤ length ps
+    body-most = let k = b.keeping.most in omega (arith, ap length e)
+
+    pub body-keeping : WalkKeeps (tree_of a) a.around.slots.now ps b.n
+    body-keeping = subst (λ (s : Scope). WalkKeeps s.tree.now s.slots.now ps b.n) (r.keeps.same_around ∙ m.same_around)
+        (subst (λ (x : List ℕ). WalkKeeps (tree_of b) b.around.slots.now x b.n) (sym e) b.keeping)
+
+    pub body-names : first_names (tree_of a) b.n ps ≡ held_expr (names_around a.around) a'.marked (expr_at d (tree_of a) q).value (names_kept a)
+    body-names =
+        ap₂ (λ (s : Scope) (x : List ℕ). first_names s.tree.now b.n x) (sym (r.keeps.same_around ∙ m.same_around)) e
+        ∙ r.keeps.names
+        ∙ ap (λ (s : Scope). held_expr (names_around s) a'.marked (expr_at d s.tree.now q).value (first_names s.tree.now a'.n a'.kept.now)) m.same_around
+        ∙ ap₂ (λ (i : ℕ) (x : MutBor (List ℕ)). held_expr (names_around a.around) a'.marked (expr_at d (tree_of a) q).value (first_names (tree_of a) i x.now)) m.same_n m.same_kept
 
 module _ (d : ℕ) (a a' b : Captures) (p q o : ℕ) (m : MarksSlots (mark_all (names_around a.around) (params_at (tree_of a) p).value a.marked) a a') (e : q ≡ (params_at (tree_of a') p).end) where
   params-end : q ≡ (params_at (tree_of a) p).end
@@ -168,33 +189,32 @@ module _ (d : ℕ) (a a' b : Captures) (p q o : ℕ) (m : MarksSlots (mark_all (
   pub lambda-body : LambdaAt d (tree_of a) p → ExprReads d (tree_of a') q
   lambda-body h = subst (λ (s : Scope). ExprReads d s.tree.now q) (sym m.same_around) (body-there d (tree_of a) p q params-end h)
 
-  pub refers-lambda : Refers o (expr_at d (tree_of a') q) held_expr a' b → (c : Captures) → c.around ≡ b.around → c.marked ≡ a.marked → c.n ≡ b.n → c.kept ≡ b.kept → Refers o (lambda_at d (tree_of a) p) held_expr a c
-  unfolding held_expr lambda_at
-  refers-lambda r c f g h k = record {
-    next-is = r.next-is ∙ ap₂ (λ (s : Scope) (x : ℕ). (expr_at d s.tree.now x).end) m.same_around params-end;
-    keeps = record {
-      names = ap₂ (λ (s : Scope) (x : MutBor (List ℕ)). first_names s.tree.now c.n x.now) f k ∙ ap (λ (i : ℕ). first_names (tree_of b) i b.kept.now) h
-          ∙ r.keeps.names
-          ∙ ap₂ (λ (s : Scope) (x : ℕ). held_expr (names_around s) a'.marked (expr_at d s.tree.now x).value (first_names s.tree.now a'.n a'.kept.now)) m.same_around params-end
-          ∙ ap₂ (λ (i : ℕ) (x : MutBor (List ℕ)). held_expr (names_around a.around) a'.marked (expr_at d (tree_of a) (params_at (tree_of a) p).end).value (first_names (tree_of a) i x.now)) m.same_n m.same_kept
-          ∙ ap (λ (ms : List Bool). held_expr (names_around a.around) ms (expr_at d (tree_of a) (params_at (tree_of a) p).end).value (names_kept a)) m.marked;
-      same_around = f ∙ r.keeps.same_around ∙ m.same_around;
-      same_marks = g;
-      same_kept = ap (λ (x : MutBor (List ℕ)). x.ghost_name) k ∙ r.keeps.same_kept ∙ ap (λ (x : MutBor (List ℕ)). x.ghost_name) m.same_kept;
-    };
-  }
+  module _ (r : Refers o (expr_at d (tree_of a') q) held_expr a' b) where
+    lambda-end : o ≡ (lambda_at d (tree_of a) p).end
+    unfolding lambda_at
+    lambda-end = r.next-is ∙ ap₂ (λ (s : Scope) (x : ℕ). (expr_at d s.tree.now x).end) m.same_around params-end
 
--- the body of the lambda from which a walk begins, where the parameters are marked, too: what is kept from a on stands in ps
-module _ (a a' b : Captures) (ms : List Bool) (m : MarksSlots ms a a') (d q o : ℕ) (r : Refers o (expr_at d (tree_of a') q) held_expr a' b) (ps : List ℕ) (e : ps ≡ b.kept.now) where
-  pub body-most : slots_from + b.n ≤ length ps
-  body-most = let k = b.keeping.most in omega (arith, ap length e)
+    lambda-names : (ps : List ℕ) → ps ≡ b.kept.now → first_names (tree_of a) b.n ps ≡ held_expr (names_around a.around) a.marked (lambda_at d (tree_of a) p).value (names_kept a)
+    unfolding held_expr lambda_at
+    lambda-names ps f =
+        body-names a a' b _ m d q o r ps f
+        ∙ ap₂ (λ (x : ℕ) (ms : List Bool). held_expr (names_around a.around) ms (expr_at d (tree_of a) x).value (names_kept a)) params-end m.marked
 
-  pub body-names : first_names (tree_of a) b.n ps ≡ held_expr (names_around a.around) a'.marked (expr_at d (tree_of a) q).value (names_kept a)
-  body-names =
-      ap₂ (λ (s : Scope) (x : List ℕ). first_names s.tree.now b.n x) (sym (r.keeps.same_around ∙ m.same_around)) e
-      ∙ r.keeps.names
-      ∙ ap (λ (s : Scope). held_expr (names_around s) a'.marked (expr_at d s.tree.now q).value (first_names s.tree.now a'.n a'.kept.now)) m.same_around
-      ∙ ap₂ (λ (i : ℕ) (x : MutBor (List ℕ)). held_expr (names_around a.around) a'.marked (expr_at d (tree_of a) q).value (first_names (tree_of a) i x.now)) m.same_n m.same_kept
+    -- a goes on where s stands, with a copy of its marks; c is s after it, with the names that b kept
+    pub refers-lambda : (s c : Captures) → a.around ≡ s.around → a.marked ≡ s.marked → names_kept a ≡ names_kept s
+        → c.around ≡ s.around → c.marked ≡ s.marked → c.n ≡ b.n → c.kept.now ≡ b.kept.now → c.kept.ghost_name ≡ s.kept.ghost_name → Refers o (lambda_at d (tree_of s) p) held_expr s c
+    refers-lambda s c f g h around marked n kept same = record {
+      next-is = lambda-end ∙ ap (λ (x : Scope). (lambda_at d x.tree.now p).end) f;
+      keeps = record {
+        names = ap₂ (λ (x : Scope) (i : ℕ). first_names x.tree.now i c.kept.now) (around ∙ sym f) n
+            ∙ lambda-names c.kept.now kept
+            ∙ ap₂ (λ (x : Scope) (ms : List Bool). held_expr (names_around x) ms (lambda_at d x.tree.now p).value (names_kept a)) f g
+            ∙ ap (held_expr (names_around s.around) s.marked (lambda_at d (tree_of s) p).value) h;
+        same_around = around;
+        same_marks = marked;
+        same_kept = same;
+      };
+    }
 
 -- ---- expressions, one at a time
 

@@ -183,17 +183,23 @@ impl Captures<'_, '_> {
         p
     }
 
-    // A lambda: in its body its parameters are marked, too.
+    // A lambda: its body is walked with a copy of the marks, in which its parameters are marked, too.
     #[cycle(refs)]
     fn lambda(&mut self, at: usize, depth: u32) -> usize
         requires { LambdaAt depth self.old.around.tree.now at }
         ensures { Refers result (lambda_at depth self.old.around.tree.now at) held_expr self.old self.new }
     {
-        let outer = self.marked;
-        self.mark_params(at);
-        let body = skip_params(self.around.tree, at);
-        let end = self.expr(body, depth);
-        self.marked = outer;
+        let kept = &mut *self.kept;
+        let mut inner = Captures {
+            around: self.around,
+            marked: self.marked,
+            kept,
+            n: self.n,
+        };
+        inner.mark_params(at);
+        let body = skip_params(inner.around.tree, at);
+        let end = inner.expr(body, depth);
+        self.n = inner.n;
         end
     }
 }

@@ -5,7 +5,8 @@ use Rattle.numerals.specs.Kinds.{expr_byte}
 use Rattle.tree_view.proofs.ExprViews.{expr-inside, expr-deep, expr-known, view-var, view-unary, view-binary, view-call, view-attribute, view-dict, view-index, view-lambda}
 use Rattle.slots.proofs.KindGroups.{literal-byte, display-byte}
 use Rattle.slots.proofs.Kinded.{seen-display}
-use Rattle.slots.proofs.Referring.{refers-as, refers-literal, refers-var, refers-unary, refers-binary, refers-display, refers-dict, refers-two, refers-call, refers-attribute, refers-lambda, exprs-start, exprs-head, exprs-next, exprs-done}
+use Rattle.slots.proofs.Referring.{refers-as, refers-literal, refers-var, refers-unary, refers-binary, refers-display, refers-dict, refers-two, refers-call, refers-attribute, refers-lambda}
+use Rattle.slots.proofs.Referring.{body-lent, body-keeping, exprs-start, exprs-head, exprs-next, exprs-done}
 use Rattle.slots.proofs.captures.Captures.+refs.Goals as goal
 
 pub attribute-returns : goal.attribute-returns
@@ -124,8 +125,15 @@ pub expr-returns-in-Dict : goal.expr-returns-in-Dict
 unfolding expr_byte
 expr-returns-in-Dict t c = refers-as _ _ _ _ _ (view-dict _ _ _ c.requires (sym c.in-Dict.ensures)).is (refers-dict _ _ _ _ _ _ c.dict.ensures)
 
+pub lambda-invariant_of-self : goal.lambda-invariant_of-self
+lambda-invariant_of-self t c =
+    let m = c.mark_params.ensures in let r = c.expr-end.ensures in
+    record { keeping = body-keeping _ _ _ _ m _ _ _ r _ (c.kept-2-1.given.1.1 (body-lent _ _ _ _ m _ _ _ r)) }
+
 pub lambda-returns : goal.lambda-returns
-lambda-returns t c = refers-lambda _ _ _ _ _ _ _ c.mark_params.ensures c.skip_params-body.ensures c.expr-end.ensures _ refl refl refl refl
+lambda-returns t c =
+    let m = c.mark_params.ensures in let r = c.expr-end.ensures in
+    refers-lambda _ _ _ _ _ _ _ m c.skip_params-body.ensures r _ _ refl refl refl refl refl refl (c.kept-2-1.given.1.1 (body-lent _ _ _ _ m _ _ _ r)) refl
 
 pub many-loop-init : goal.many-loop-init
 many-loop-init t c = exprs-start _ _ _ _ _ (omega arith) c.requires
