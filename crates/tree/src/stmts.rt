@@ -29,8 +29,8 @@ fn check_target(c: &mut Checker<'_>, depth: u32) -> Result<(), Question>
     check_expr(c, depth, Role::Target)
 }
 
-// A statement's value. None, False and True, of one byte each, need no call of check_expr.
-fn check_stmt_value(c: &mut Checker<'_>, depth: u32) -> Result<(), Question>
+// An assigned value, of a target or a class attribute. None, False and True, of one byte each, need no call of check_expr.
+fn check_assigned(c: &mut Checker<'_>, depth: u32) -> Result<(), Question>
     ensures { Judged result c.old c.new (judge_expr Role.Value depth) }
 {
     if depth != 0 {
@@ -46,7 +46,7 @@ fn check_assign(c: &mut Checker<'_>, depth: u32) -> Result<(), Question>
     ensures { Judged result c.old c.new (judge_assign depth) }
 {
     check_target(c, depth)?;
-    check_stmt_value(c, depth)
+    check_assigned(c, depth)
 }
 
 // A class attribute: a name and a value.
@@ -54,7 +54,7 @@ fn check_value(c: &mut Checker<'_>, depth: u32) -> Result<(), Question>
     ensures { Judged result c.old c.new (judge_attribute_value depth) }
 {
     c.name()?;
-    check_stmt_value(c, depth)
+    check_assigned(c, depth)
 }
 
 // n class attributes. `check_methods` has this shape: one walk for both would take a closure, and each closure its own clauses, in more lines.
@@ -75,7 +75,8 @@ pub(crate) fn check_attributes(c: &mut Checker<'_>, depth: u32) -> Result<(), Qu
     check_values(c, depth, n)
 }
 
-// A statement.
+// A statement. Inlined, since with a call for each statement a tree of `pass` takes twice as long to check.
+#[inline(always)]
 #[cycle(check)]
 pub(crate) fn check_stmt(c: &mut Checker<'_>, context: Context) -> Result<(), Question>
     ensures { Judged result c.old c.new (judge_stmt context.looped context.depth) }
@@ -94,7 +95,7 @@ pub(crate) fn check_stmt(c: &mut Checker<'_>, context: Context) -> Result<(), Qu
             Ok(())
         }
         StmtKind::Pass => Ok(()),
-        StmtKind::Expr | StmtKind::Return => check_stmt_value(c, depth - 1),
+        StmtKind::Expr | StmtKind::Return => check_expr(c, depth - 1, Role::Value),
         StmtKind::Assign => check_assign(c, depth - 1),
         StmtKind::If => check_if(
             c,

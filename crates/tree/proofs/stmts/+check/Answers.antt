@@ -136,7 +136,7 @@ pub check_stmt-returns-in-Break : goal.check_stmt-returns-in-Break
 check_stmt-returns-in-Break t c = stmt-leaves _ _ c.in_ok-byte.ensures c.if-depth-eq0.false c.in-Ok.ensures c.in-Break.is c.note.ensures
 
 pub check_stmt-returns-in-Expr : goal.check_stmt-returns-in-Expr
-check_stmt-returns-in-Expr t c = stmt-value _ _ c.in_ok-byte.ensures c.if-depth-eq0.false c.in-Ok.ensures c.in-Expr.is c.check_stmt_value.ensures
+check_stmt-returns-in-Expr t c = stmt-value _ _ c.in_ok-byte.ensures c.if-depth-eq0.false c.in-Ok.ensures c.in-Expr.is c.check_expr.ensures
 
 pub check_stmt-returns-in-Pass : goal.check_stmt-returns-in-Pass
 unfolding stmt_byte

@@ -9,4 +9,4 @@ returns-in_err-check_target c = stop _ (search rules) c.in_err-check_target.ensu
 
 pub returns : goal.returns
 unfolding judge_assign
-returns c = step c.in_ok-check_target.ensures c.check_stmt_value.ensures
+returns c = step c.in_ok-check_target.ensures c.check_assigned.ensures
