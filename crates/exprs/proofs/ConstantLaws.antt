@@ -1,19 +1,20 @@
--- Constants, judged by their kind byte alone. Assumes nothing.
+-- Constants and plain variables, judged by their kind byte alone. Assumes nothing.
 use Prim.Native.Nat.{ℕ, zero, suc, ◌+◌, ◌-◌, ◌<◌, ◌≤◌}
-use mathlib.Core.Path.{◌≡◌, refl, sym, ◌∙◌}
+use mathlib.Core.Path.{◌≡◌, refl, sym, ap, ◌∙◌}
+use mathlib.Core.Bool.{true}
 use mathlib.Core.List.{List}
 use native.Mathlib.Omega.{arith}
 use lib.ListN.{length, get_or}
-use Rattle.tree_view.specs.Judge.{suited, judge_expr, judge_many}
+use Rattle.tree_view.specs.Judge.{fits_role, suited, judge_name, judge_expr, judge_many}
 use Rattle.tree_view.specs.Judge.{Next}
 use Rattle.tree_view.specs.declared.roles.Role.{Role}
-use Rattle.tree_view.specs.declared.roles.Role.TheVariants.{Value}
+use Rattle.tree_view.specs.declared.roles.Role.TheVariants.{Value, Target as as_target}
 use Rattle.tree_view.proofs.Laws.{then_next}
-use Rattle.tree_view.proofs.LeafLaws.{suits-value}
+use Rattle.tree_view.proofs.LeafLaws.{noted-yes, suits-value}
 use Rattle.parts.specs.Judged.{SkipsBelow}
 use Rattle.parts.specs.declared.checker.Checker.{Checker}
 use Rattle.exprs.specs.Constants.{PassesOver, Skipped}
-use Rattle.tree_view.proofs.ExprLaws.{at_none, at-false, at_true, many_more}
+use Rattle.tree_view.proofs.ExprLaws.{at_none, at-false, at_true, at-var, many_more}
 
 -- a constant as a value: one byte, of which nothing is asked
 pub constant-value : (d : ℕ) (t : List ℕ) (p w : ℕ) → (d ≡ 0 → ⊥) → p < length t → get_or t p 0 < 3 → Next (p + 1) w ≡ judge_expr Value d t p w
@@ -27,6 +28,11 @@ constant-value d t p w f h l = go (get_or t p 0) refl l
     go (suc zero) e l = at-false Value d t p w w f h u e
     go (suc (suc zero)) e l = at_true Value d t p w w f h u e
     go (suc (suc (suc k))) e l = absurd (omega arith)
+
+-- a variable as a target: its name
+pub variable-target : (d : ℕ) (t : List ℕ) (p w : ℕ) → (d ≡ 0 → ⊥) → p < length t → get_or t p 0 ≡ 6 → judge_name t (p + 1) w ≡ judge_expr as_target d t p w
+unfolding suited fits_role
+variable-target d t p w f h e = at-var as_target d t p w w f h (let s : w ≡ suited as_target 6 w = noted-yes w 10 true refl in s ∙ ap (λ (k : ℕ). suited as_target k w) (sym e)) e
 
 -- a constant at the head of a list of values
 many-constant : (d : ℕ) (t : List ℕ) (n p w : ℕ) → (d ≡ 0 → ⊥) → p < length t → 0 < n → get_or t p 0 < 3 → judge_many Value d t n p w ≡ judge_many Value d t (n - 1) (p + 1) w

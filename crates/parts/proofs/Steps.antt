@@ -74,6 +74,10 @@ noted {K = K} {f = f} {c = c} {c₁ = c₁} a b = record {
   answer = b.answer ∙ ap (λ (t : List ℕ). K t c₁.at (stand c₁.first)) a.tree ∙ ap (λ (p : ℕ). K c.tree.now p (stand c₁.first)) a.at ∙ ap (K c.tree.now c.at) a.stand;
 }
 
+-- nothing is passed over
+pub stay : {K : List ℕ → ℕ → ℕ → Passed} {r : Result (Unit {0}) Question} {c c₁ c₂ : Checker} → CheckerWent 0 c c₁ → Judged r c₁ c₂ K → Judged r c c₂ K
+stay a b = noted (record { tree = a.tree; at = let h = a.at in omega arith; stand = ap stand a.first }) b
+
 -- the end
 pub done : {c : Checker} {u : Unit {0}} → Judged (Ok u) c c (λ t p w. Next p w)
 unfolding passed_by

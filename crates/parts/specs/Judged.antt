@@ -1,5 +1,5 @@
 -- What a checker answers and leaves, by the judges of Judge.
-use Rattle.std.specs.Prelude.{ℕ, ◌+◌, ◌<◌, ◌≡◌, ◌≤◌, Bool, List, length, get_or, ◌⊎◌, Result, Ok, Err}
+use Rattle.std.specs.Prelude.{ℕ, ◌+◌, ◌<◌, ◌≡◌, ◌≤◌, Bool, true, false, List, length, get_or, ◌⊎◌, Result, Ok, Err}
 use Rattle.std.proofs.Math.Option.{some}
 use Rattle.std.proofs.Math.ListN.{get_elem?}
 use Rattle.definitions.specs.Wellformed.{if_asked, block_questions}
@@ -54,6 +54,11 @@ pub record CheckerShort (n : ℕ) (c c' : Checker) (q : Question) : Type 0 where
 unfoldable pub ReadsByte : Result ℕ Question → Checker → Checker → Type 0
 ReadsByte (Ok b) c c' = CheckerWent 1 c c' × (b ≡ get_or c.tree.now c.at 0)
 ReadsByte (Err q) c c' = CheckerShort 1 c c' q
+
+-- the next byte is b, and c' stands after it; or it is another or there is none, and nothing changes
+unfoldable pub SkipsByte : ℕ → Bool → Checker → Checker → Type 0
+SkipsByte b true c c' = ReadsByte (Ok b) c c'
+SkipsByte b false c c' = CheckerWent 0 c c' × ((c.at < length c.tree.now) → get_or c.tree.now c.at 0 ≡ b → ⊥)
 
 -- k bytes below a limit, at most so many
 pub record SkipsBelow (limit most k : ℕ) (c c' : Checker) : Type 0 where

@@ -21,7 +21,7 @@ impl<'a> Checker<'a> {
     ghost use Rattle.definitions.specs.Bytes.{field};
     ghost use Rattle.parts.specs.Asked.{stand};
     ghost use Rattle.tree_view.specs.Judge.{judged, unasked, judge_operator, suited, filled};
-    ghost use Rattle.parts.specs.Judged.{Starts, ReadsByte, Judged, ReadsCount, CheckerWent, CheckerShort, SkipsBelow, StandChanged, answered, Rules, SettlesAtEnd};
+    ghost use Rattle.parts.specs.Judged.{Starts, ReadsByte, Judged, ReadsCount, CheckerWent, CheckerShort, SkipsByte, SkipsBelow, StandChanged, answered, Rules, SettlesAtEnd};
 
     // From a place on, with no question answered no.
     #[tactic(auto, unfolding(crate::specs::Asked::stand))]
@@ -60,6 +60,21 @@ impl<'a> Checker<'a> {
         let byte = self.tree[self.at];
         self.at += 1;
         Ok(byte)
+    }
+
+    // Passes over the next byte, if it is this one; whether it is.
+    #[tactic(auto, unfolding(crate::specs::Judged::SkipsByte, crate::specs::Judged::ReadsByte))]
+    pub fn skip_byte(&mut self, byte: u8) -> bool
+        ensures { SkipsByte byte result self.old self.new }
+    {
+        if self.tree.len() <= self.at {
+            return false;
+        }
+        if self.tree[self.at] != byte {
+            return false;
+        }
+        self.at += 1;
+        true
     }
 
     // A count of two bytes.

@@ -1,7 +1,7 @@
 -- What check_stmt finds at each kind, and lists of parts one by one. Assumes nothing.
 use Prim.Native.Nat.{ℕ, ◌+◌, ◌-◌, ◌<◌, ◌≤◌}
 use mathlib.Core.Path.{◌≡◌, refl, sym, ap, ◌∙◌}
-use mathlib.Core.Bool.{Bool}
+use mathlib.Core.Bool.{Bool, true, false, true≢false}
 use mathlib.Core.List.{List}
 use mathlib.Core.Logic.{◌⊎◌, inl, inr}
 use native.Mathlib.Omega.{arith}
@@ -15,13 +15,14 @@ use Rattle.questions.specs.declared.Question.TheVariants.{TreeLayout, Depth}
 use Rattle.questions.specs.Numbers.{number}
 use Rattle.definitions.specs.Wellformed.{if_asked}
 use Rattle.parts.specs.Asked.{number_asked, stand}
-use Rattle.tree_view.specs.Judge.{Passed, Next, least, judge_expr, judge_stmt, judge_block, judge_stmts, judge_branch, judge_branches, judge_method, judge_methods, judge_attribute_list, judge_attributes, judge_attribute_value}
-use Rattle.parts.specs.Judged.{passed_by, Judged, ReadsCount, ReadsByte, StandChanged, answered}
+use Rattle.tree_view.specs.Judge.{Passed, Next, least, judge_name, judge_expr, judge_stmt, judge_block, judge_stmts, judge_branch, judge_branches, judge_method, judge_methods, judge_attribute_list, judge_attributes, judge_attribute_value}
+use Rattle.parts.specs.Judged.{passed_by, Judged, ReadsCount, ReadsByte, SkipsByte, SkipsBelow, StandChanged, answered}
 use Rattle.parts.specs.declared.asked.BlockQuestion.{BlockQuestion}
 use Rattle.parts.specs.declared.asked.BlockQuestion.TheVariants.{Loops}
 use Rattle.parts.specs.declared.checker.Checker.{Checker}
-use Rattle.tree_view.specs.declared.roles.Role.TheVariants.{Value}
-use Rattle.parts.proofs.Steps.{Turns, count-step, count-stop, done}
+use Rattle.tree_view.specs.declared.roles.Role.TheVariants.{Value, Target as as_target}
+use Rattle.parts.proofs.Steps.{Turns, count-step, count-stop, stay, done}
+use Rattle.exprs.proofs.ConstantLaws.{constant-value, variable-target}
 use Rattle.tree_view.proofs.StmtLaws.{stmt-none, stmt-end, stmt-unknown, at-break, at-continue, at-expr, at_return, block-law}
 use Rattle.tree_view.proofs.StmtLaws.{attributes-law, stmts-none, stmts-more, branches-none, branches-more, methods-none, methods-more}
 use Rattle.tree_view.proofs.StmtLaws.{attributes-none, attributes-more, else-end, else-none, else-block, else-unknown}
@@ -71,6 +72,34 @@ pub stmt-value : (l : Bool) (d : ℕ) {k : StmtKind} {b : ℕ} {o : Result (Unit
 unfolding stmt_byte
 stmt-value l d a f e (inl h) j = kind-step d 3 a f (sym e ∙ ap stmt_byte h) (λ t p w f h e. at-expr l d t p w f h e) j
 stmt-value l d a f e (inr h) j = kind-step d 4 a f (sym e ∙ ap stmt_byte h) (λ t p w f h e. at_return l d t p w f h e) j
+
+-- a target that is a variable, or another
+pub target-variable : (d : ℕ) {b : Bool} {o : Result (Unit {0}) Question} {c c₁ c₂ : Checker} → (d ≡ 0 → ⊥) → b ≡ true → SkipsByte 6 b c c₁ → Judged o c₁ c₂ judge_name → Judged o c c₂ (judge_expr as_target d)
+unfolding SkipsByte
+target-variable d {b = true} f e s j = kind-step d 6 s f refl (variable-target d) j
+target-variable d {b = false} f e s j = absurd (true≢false (sym e))
+
+pub target-other : {b : Bool} {K : List ℕ → ℕ → ℕ → Passed} {o : Result (Unit {0}) Question} {c c₁ c₂ : Checker} → b ≡ false → SkipsByte 6 b c c₁ → Judged o c₁ c₂ K → Judged o c c₂ K
+unfolding SkipsByte
+target-other {b = true} e s j = absurd (true≢false e)
+target-other {b = false} e s j = stay s.0 j
+
+pub moved : {K : List ℕ → ℕ → ℕ → Passed} {o : Result (Unit {0}) Question} {c c₁ c₂ : Checker} → c₁ ≡ c → Judged o c₁ c₂ K → Judged o c c₂ K
+moved e j = rw (sym e) j
+
+-- a value that is a constant
+constant-at : (t : List ℕ) (p q : ℕ) → q ≡ p → get_or t q 0 < 3 → get_or t p 0 < 3
+constant-at t p q e h = rw (sym e) h
+
+pub value-constant : (d k : ℕ) {u : Unit {0}} {c c₁ : Checker} → (d ≡ 0 → ⊥) → k ≡ 1 → SkipsBelow 3 1 k c c₁ → Judged (Ok u) c c₁ (judge_expr Value d)
+unfolding passed_by
+value-constant d k {c = c} {c₁ = c₁} f e s =
+    let r = s.went.room in let a = s.went.at in
+    record {
+      tree = s.went.tree;
+      answer = ap (λ (p : ℕ). Next p (stand c₁.first)) (let z : c₁.at ≡ c.at + 1 = omega arith in z) ∙ ap (λ (o : Option BlockQuestion). Next (c.at + 1) (stand o)) s.went.first
+          ∙ constant-value d c.tree.now c.at (stand c.first) f (omega arith) (constant-at c.tree.now c.at (c.at + 0) (omega arith) (s.each 0 (omega arith)));
+    }
 
 -- ---- lists
 

@@ -1,10 +1,10 @@
 // Statements, by a checker: questions 5 to 13.
-ghost use Rattle.tree_view.specs.Judge.{judge_assign, judge_attribute_list, judge_attributes, judge_attribute_value, judge_stmt, judge_block};
+ghost use Rattle.tree_view.specs.Judge.{judge_expr, judge_assign, judge_attribute_list, judge_attributes, judge_attribute_value, judge_stmt, judge_block};
 ghost use Rattle.tree_view.specs.Judge.{judge_branch, judge_branches, judge_if, judge_for, judge_def, judge_method, judge_methods, judge_class};
 ghost use Rattle.parts.specs.Judged.{Judged};
 
 use exprs::check_expr;
-use numerals::kinds::StmtKind;
+use numerals::kinds::{ExprKind, StmtKind};
 use parts::asked::BlockQuestion;
 use parts::checker::Checker;
 use questions::Question;
@@ -17,12 +17,36 @@ pub(crate) struct Context {
     pub(crate) looped: bool,
 }
 
+// An assignment's target. A variable needs no call of check_expr: with one, a tree of assignments takes half as long again to check.
+fn check_target(c: &mut Checker<'_>, depth: u32) -> Result<(), Question>
+    ensures { Judged result c.old c.new (judge_expr Role.Target depth) }
+{
+    if depth != 0 {
+        if c.skip_byte(ExprKind::Variable as u8) {
+            return c.name();
+        }
+    }
+    check_expr(c, depth, Role::Target)
+}
+
+// An assigned value, of a target or a class attribute. None, False and True, of one byte each, need no call of check_expr.
+fn check_assigned(c: &mut Checker<'_>, depth: u32) -> Result<(), Question>
+    ensures { Judged result c.old c.new (judge_expr Role.Value depth) }
+{
+    if depth != 0 {
+        if c.skip_below(ExprKind::Int as u8, 1) == 1 {
+            return Ok(());
+        }
+    }
+    check_expr(c, depth, Role::Value)
+}
+
 // A target and a value.
 fn check_assign(c: &mut Checker<'_>, depth: u32) -> Result<(), Question>
     ensures { Judged result c.old c.new (judge_assign depth) }
 {
-    check_expr(c, depth, Role::Target)?;
-    check_expr(c, depth, Role::Value)
+    check_target(c, depth)?;
+    check_assigned(c, depth)
 }
 
 // A class attribute: a name and a value.
@@ -30,7 +54,7 @@ fn check_value(c: &mut Checker<'_>, depth: u32) -> Result<(), Question>
     ensures { Judged result c.old c.new (judge_attribute_value depth) }
 {
     c.name()?;
-    check_expr(c, depth, Role::Value)
+    check_assigned(c, depth)
 }
 
 // n class attributes. `check_methods` has this shape: one walk for both would take a closure, and each closure its own clauses, in more lines.
@@ -51,7 +75,8 @@ pub(crate) fn check_attributes(c: &mut Checker<'_>, depth: u32) -> Result<(), Qu
     check_values(c, depth, n)
 }
 
-// A statement.
+// A statement. Inlined, since with a call for each statement a tree of `pass` takes twice as long to check.
+#[inline(always)]
 #[cycle(check)]
 pub(crate) fn check_stmt(c: &mut Checker<'_>, context: Context) -> Result<(), Question>
     ensures { Judged result c.old c.new (judge_stmt context.looped context.depth) }

@@ -9,4 +9,4 @@ returns-in_err-name c = stop _ (search rules) c.in_err-name.ensures
 
 pub returns : goal.returns
 unfolding judge_attribute_value
-returns c = step c.in_ok-name.ensures c.check_expr.ensures
+returns c = step c.in_ok-name.ensures c.check_assigned.ensures
