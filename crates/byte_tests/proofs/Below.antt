@@ -1,16 +1,15 @@
 -- The order of bytes: by the first of them, and its laws.
-use Prim.Native.Nat.{ℕ, ◌≤◌, ◌<◌}
-use mathlib.Core.Path.{◌≡◌, refl, sym, ap, ◌∙◌}
+use Prim.Native.Nat.{ℕ, suc, ◌+◌, ◌≤◌, ◌<◌}
+use mathlib.Core.Path.{◌≡◌, refl, sym, ap, ap₂, ◌∙◌}
 use mathlib.Core.Bool.{Bool, true, false, ◌&&◌}
 use mathlib.Core.List.{List, [], ◌∷◌}
 use mathlib.Core.Logic.{⊎_elim}
 use native.Mathlib.Omega.{arith}
+use native.Mathlib.Numerals.{add-one}
 use lib.Dec.{ltb}
+use lib.ListN.{length, drop, get_or, drop_of_length-le}
+use lib.Seq.{drop-cons}
 use borrow.Author.Tests.{lt-ltb, le-ltb, eq-eqb, ne_eqb}
-use Rattle.std.specs.declared.cmp.Ordering.{Ordering}
-use Rattle.std.specs.declared.cmp.Ordering.TheVariants.{Less, Equal, Greater}
-use Rattle.std.specs.Ordering.{MatchOrdering, nat_cmp}
-use Rattle.std.proofs.lemmas.Cmp.{ranked}
 use Rattle.definitions.specs.Bytes.{Name, same, below}
 use Rattle.definitions.proofs.Begins.{le-or-gt}
 use Rattle.definitions.proofs.MethodOrder.{same-eq}
@@ -21,6 +20,11 @@ unfolding below
 below_none [] = refl
 below_none (x ∷ xs) = refl
 
+some_below : (y : ℕ) (ys : Name) → below [] (y ∷ ys) ≡ true
+unfolding below
+some_below y ys = refl
+
+-- by the first bytes
 module _ (x y : ℕ) (xs ys : List ℕ) where
   by_first : Bool → Bool
   by_first b = elim b [ true ↦ below xs ys | false ↦ ltb x y ]
@@ -39,15 +43,25 @@ module _ (x y : ℕ) (xs ys : List ℕ) where
   pub below_more : y < x → below (x ∷ xs) (y ∷ ys) ≡ false
   below_more h = below-first (λ z. omega arith) ∙ le-ltb x y (omega arith)
 
--- what `cmp` of the first bytes says
-pub below_heads : (x y : ℕ) (xs ys : List ℕ) (o : Ordering) → o ≡ nat_cmp x y →
-    MatchOrdering o (below (x ∷ xs) (y ∷ ys) ≡ true) (below (x ∷ xs) (y ∷ ys) ≡ below xs ys) (below (x ∷ xs) (y ∷ ys) ≡ false)
-below_heads x y xs ys o e = go o (ranked x y o e)
-  where
-    go : (o : Ordering) → MatchOrdering o (x < y) (x ≡ y) (y < x) → MatchOrdering o (below (x ∷ xs) (y ∷ ys) ≡ true) (below (x ∷ xs) (y ∷ ys) ≡ below xs ys) (below (x ∷ xs) (y ∷ ys) ≡ false)
-    go Less h = below_less x y xs ys h
-    go Equal h = below-same x y xs ys h
-    go Greater h = below_more x y xs ys h
+-- by the bytes at i
+module _ (a b : List ℕ) (i : ℕ) where
+  -- they differ
+  pub below-differ : i < length a → i < length b → (get_or a i 0 ≡ get_or b i 0 → ⊥) → below (drop i a) (drop i b) ≡ ltb (get_or a i 0) (get_or b i 0)
+  below-differ h k d = rw (drop-cons a i 0 h, drop-cons b i 0 k) (below-first (get_or a i 0) (get_or b i 0) (drop (suc i) a) (drop (suc i) b) d)
+
+  -- they are the same
+  pub below-go : i < length a → i < length b → get_or a i 0 ≡ get_or b i 0 → below (drop i a) (drop i b) ≡ below (drop (i + 1) a) (drop (i + 1) b)
+  below-go h k e = rw (drop-cons a i 0 h, drop-cons b i 0 k, add-one) (below-same (get_or a i 0) (get_or b i 0) (drop (suc i) a) (drop (suc i) b) e)
+
+  -- one ends
+  pub below_lengths : i ≤ length a → i ≤ length b → (i < length a → i < length b → ⊥) → below (drop i a) (drop i b) ≡ ltb (length a) (length b)
+  below_lengths h k n = ⊎_elim
+      (λ (m : length b ≤ i). ap (below (drop i a)) (drop_of_length-le b m) ∙ below_none (drop i a) ∙ sym (le-ltb (length a) (length b) (omega arith)))
+      (λ (m : i < length b). ap₂ below (drop_of_length-le a (b_longer m)) (drop-cons b i 0 m) ∙ some_below (get_or b i 0) (drop (suc i) b) ∙ sym (lt-ltb (length a) (length b) (let e = b_longer m in omega arith)))
+      (le-or-gt (length b) i)
+    where
+      b_longer : i < length b → length a ≤ i
+      b_longer m = ⊎_elim (λ (q : length a ≤ i). q) (λ (q : i < length a). absurd (n q m)) (le-or-gt (length a) i)
 
 -- ---- laws of the order
 
@@ -61,10 +75,6 @@ below_flip (a ∷ x) (b ∷ y) e = ⊎_elim
     (le-or-gt b a))
     (λ (h : b < a). true-false e (below_more a b x y h))
     (le-or-gt a b)
-
-some_below : (y : ℕ) (ys : Name) → below [] (y ∷ ys) ≡ true
-unfolding below
-some_below y ys = refl
 
 -- what is below a name is below all that is not
 pub below-past : (x y z : Name) → below x y ≡ true → below z y ≡ false → below x z ≡ true

@@ -1,10 +1,13 @@
-use mathlib.Core.Path.{refl}
-use Rattle.std.specs.Ordering.{is_lt, nat_cmp}
-use Rattle.std.proofs.lemmas.Cmp.{same_from_slice_cmp_tested}
-use Rattle.definitions.specs.Bytes.{below}
-use Rattle.byte_tests.proofs.Below.{below_heads}
+use native.Mathlib.Omega.{arith}
+use mathlib.Core.Path.{sym, ◌∙◌}
+use Rattle.byte_tests.proofs.Below.{below-differ, below-go, below_lengths}
 use Rattle.byte_tests.proofs.below_bytes.Goals as goal
 
+pub returns-then-a-i : goal.returns-then-a-i
+returns-then-a-i c = let a = c.args in sym (c.loop-i.invariant ∙ below-differ a.a.now a.b.now c.loop-i.i (omega arith) (omega arith) c.if-a-i.true)
+
+pub loop-i-preserved : goal.loop-i-preserved
+loop-i-preserved c = let a = c.args in c.loop-i.invariant ∙ below-go a.a.now a.b.now c.loop-i.i (omega arith) (omega arith) c.if-a-i.false
+
 pub returns : goal.returns
-unfolding below
-returns c = same_from_slice_cmp_tested nat_cmp is_lt below refl (λ _ _. refl) (λ _ _. refl) below_heads c.args.a.now c.args.b.now c.lt.result c.lt.ensures
+returns c = let a = c.args in sym (c.loop-i.invariant ∙ below_lengths a.a.now a.b.now c.loop-i.i (omega arith) (omega arith) (λ p q. omega (arith, p, q)))
